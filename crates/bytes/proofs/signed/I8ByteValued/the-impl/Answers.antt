@@ -1,0 +1,12 @@
+use lib.Dec.{lit<}
+use Rattle.bytes.proofs.ByteLaws.{signed-exact, signed-again, signed-back}
+use Rattle.bytes.proofs.signed.I8ByteValued.the-impl.Needs as need
+
+pub exact-law : need.exact-law
+exact-law = signed-exact 1
+
+pub again-law : need.again-law
+again-law = signed-again 1 (lit< tt)
+
+pub back-law : need.back-law
+back-law = signed-back 1 (lit< tt)

@@ -1,0 +1,11 @@
+use Rattle.bytes.proofs.ByteLaws.{unsigned-exact, unsigned-again, unsigned-back}
+use Rattle.bytes.proofs.unsigned.U8ByteValued.the-impl.Needs as need
+
+pub exact-law : need.exact-law
+exact-law = unsigned-exact 1
+
+pub again-law : need.again-law
+again-law = unsigned-again 1
+
+pub back-law : need.back-law
+back-law = unsigned-back 1
