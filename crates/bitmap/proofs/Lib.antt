@@ -1,0 +1,4 @@
+pub mod BitLaws
+pub mod StoredBits
+pub mod PageLaws
+pub mod LentStorage

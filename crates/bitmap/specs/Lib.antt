@@ -1,0 +1,4 @@
+pub mod Pages
+pub mod Storage
+pub mod Tracked
+pub mod Sound
