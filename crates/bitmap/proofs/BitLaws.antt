@@ -3,7 +3,7 @@ use mathlib.Core.Path.{_≡_, refl, sym, ap, _∙_}
 use mathlib.Core.Bool.{Bool, true, false, cond, not}
 use mathlib.Core.Logic.{inl, inr}
 use Prim.Native.Nat.{ℕ, zero, suc, _+_, _-_, _*_, _/_, _%_, _^_, _≤_, _<_, min, max}
-use native.Mathlib.Nat.{add-mul, div-eq-of-lt, div-self, zero-mul}
+use native.Mathlib.Nat.{add-mul, div-eq-of-lt, div-self, zero-mul, div-div-eq-div-mul, pow-suc, mul-comm}
 use native.Mathlib.Omega.{arith}
 use lib.Bits.{bitAnd, bitOr, and-shr, or-shr, and-mod, or-mod, and-high, and-zero-l, or-zero-l, and-zero-r, or-zero-r}
 use lib.Dec.{eqb}
@@ -48,10 +48,13 @@ digit-power k j =
     elim (cases-order j k) [
       | inl same ↦ rw (same, div-self (pow-pos k)) (grind (arith, tells))
       | inr (inl below) ↦
-        let e : 2 ^ k / 2 ^ j ≡ 2 ^ (k - suc j) * 2 = ap (λ n. n / 2 ^ j) (power-split j k below) ∙ shl-shr (2 ^ (k - suc j) * 2) j in
-        rw e (grind (arith, tells))
+          let e : 2 ^ k / 2 ^ j ≡ 2 ^ (k - suc j) * 2 = ap (λ n. n / 2 ^ j) (power-split j k below) ∙ shl-shr (2 ^ (k - suc j) * 2) j in
+          rw e (grind (arith, tells))
       | inr (inr above) ↦ rw (div-eq-of-lt (pow-below k j above)) (grind (arith, tells))
     ]
+
+pub bit-of-power : (k j : ℕ) → bit-of (2 ^ k) j ≡ eqb j k
+bit-of-power k j = rw (digit-power k j) (grind (arith, tells))
 
 -- every bit below w of the complement to 2 ^ w - 1 is the other one
 digit-complement : (w n j : ℕ) → j < w → n < 2 ^ w → digit (2 ^ w - 1 - n) j ≡ 1 - digit n j
@@ -87,3 +90,15 @@ set-bit n k j = rw (digit-or n (2 ^ k) j, digit-power k j) (grind (arith, tells)
 -- a bit cleared
 pub clear-bit : (w n k j : ℕ) → k < w → j < w → bit-of (bitAnd n (2 ^ w - 1 - 2 ^ k)) j ≡ cond (eqb j k) false (bit-of n j)
 clear-bit w n k j h l = rw (digit-and n (2 ^ w - 1 - 2 ^ k) j, digit-complement w (2 ^ k) j l (pow-below k w h), digit-power k j) (grind (arith, tells))
+
+-- the bits of a half are the next ones
+halved : (a j : ℕ) → bit-of (a / 2) j ≡ bit-of a (suc j)
+halved a j = ap (λ n. eqb (n % 2) 1) (div-div-eq-div-mul a 2 (2 ^ j) ∙ ap (λ n. a / n) (sym (pow-suc 2 j ∙ mul-comm _ _)))
+
+-- numbers of w bits with the same bits are equal
+pub same-number : (w a b : ℕ) → a < 2 ^ w → b < 2 ^ w → ((k : ℕ) → k < w → bit-of a k ≡ bit-of b k) → a ≡ b
+same-number zero a b h k each = omega arith
+same-number (suc w) a b h k each =
+    let low : a % 2 ≡ b % 2 = grind (arith, tells, each 0 (omega arith)) in
+    let high : a / 2 ≡ b / 2 = same-number w (a / 2) (b / 2) (omega (arith, pow-suc 2 w)) (omega (arith, pow-suc 2 w)) (λ j below. halved a j ∙ each (suc j) (omega arith) ∙ sym (halved b j)) in
+    omega arith

@@ -34,7 +34,7 @@ module _ (byte-size page width : ℕ) (ws vs : List ℕ) (same : length vs ≡ l
 
 -- storage that is written to is the storage that was lent
 pub loan-kept : (r : RefT (List ℕ)) (vs : List ℕ) → length vs ≡ length (now r) → loan (at-last r vs) ≡ loan r
-loan-kept r vs same = ap (λ l. (name r, l) ∷ []) same
+loan-kept r vs same = ap (λ l. name r ∷ l ∷ []) same
 
 -- a page past the count is left alone
 pub past-assigned-page : (on : Bool) (b : Meaning) (n : ℕ) → b .count ≤ n → b ≡ assigned-page on b n
@@ -48,12 +48,15 @@ bit-at-zeros zero i k = refl
 bit-at-zeros (suc l) zero k = bit-of-zero k
 bit-at-zeros (suc l) (suc i) k = bit-at-zeros l i k
 
+pub stored-zeros : (width l n : ℕ) → stored bit-of width (replicate l 0) n ≡ false
+unfolding stored
+stored-zeros width l n = bit-at-zeros l (n / width) (n % width)
+
 -- cleared words are clean pages
 pub over-cleared : (byte-size page width l : ℕ) → over byte-size page width (replicate l 0) ≡ clean page (page-count byte-size page (width * l))
-unfolding stored
 over-cleared byte-size page width l i = record {
   page = page;
   count = page-count byte-size page (width * length-replicate {A = ℕ} l 0 i);
   base = 0;
-  bit = λ n. bit-at-zeros l (n / width) (n % width) i;
+  bit = λ n. stored-zeros width l n i;
 }

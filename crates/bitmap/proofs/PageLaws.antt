@@ -18,12 +18,12 @@ ceiling-is n p some =
     let rest = mod-below n p some in
     elim (cases-eq (n % p) 0) [
       | inl whole ↦
-        let e : n + (p - 1) ≡ n / p * p + (p - 1) = omega arith in
-        rw (e, div-mul-add (n / p) p (p - 1) (omega arith)) (omega arith)
+          let e : n + (p - 1) ≡ n / p * p + (p - 1) = omega arith in
+          rw (e, div-mul-add (n / p) p (p - 1) (omega arith)) (omega arith)
       | inr more ↦
-        let next : (n / p + 1) * p ≡ n / p * p + 1 * p = add-mul (n / p) 1 p in
-        let e : n + (p - 1) ≡ (n / p + 1) * p + (n % p - 1) = omega arith in
-        rw (e, div-mul-add (n / p + 1) p (n % p - 1) (omega arith)) (omega arith)
+          let next : (n / p + 1) * p ≡ n / p * p + 1 * p = add-mul (n / p) 1 p in
+          let e : n + (p - 1) ≡ (n / p + 1) * p + (n % p - 1) = omega arith in
+          rw (e, div-mul-add (n / p + 1) p (n % p - 1) (omega arith)) (omega arith)
     ]
 
 -- no more pages than bytes

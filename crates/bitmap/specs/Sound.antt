@@ -5,7 +5,7 @@ use native.Mathlib.Nat.{div-mul-le-self, mul-le-mul-right, add-mul}
 use native.Mathlib.Omega.{arith}
 use denote.Ref.{now}
 use lib.ListN.{length}
-use Rattle.bitmap.specs.Pages.{ Paged, Bounded, top, ceiling, page-count}
+use Rattle.bitmap.specs.Pages.{Paged, Bounded, top, ceiling, page-count}
 use Rattle.bitmap.specs.Tracked.{tracked, logged}
 use Rattle.bitmap.specs.declared.atomic_bitmap.AtomicBitmap.{AtomicBitmap}
 use Rattle.bitmap.specs.declared.byte_log.ByteLog.{ByteLog}

@@ -14,17 +14,25 @@ mod slice;
 mod word;
 
 pub use atomic_bitmap::AtomicBitmap;
+pub use atomic_bitmap::AtomicBitmapBitmap;
+pub use atomic_bitmap::AtomicBitmapCleanBitmap;
 pub use byte_log::ByteLog;
+pub use byte_log::ByteLogBitmap;
+pub use byte_log::ByteLogCleanBitmap;
+pub use none::UnitBitmap;
+pub use none::UnitCleanBitmap;
 pub use page_size::PageSize;
 pub use share::dirty_share;
 pub use slice::BaseSlice;
+pub use slice::BaseSliceBitmap;
+pub use slice::BaseSliceCleanBitmap;
 
 /// A bitmap by its meaning: a page size, a page count, a mark base, and a bit for each page.
 pub trait Bitmap {
     ghost means: { Self → Meaning };
 
     // The storage that was lent, by name and length, the same after every call: so its lender knows it when it comes back.
-    ghost lent: { Self → List (ℕ × ℕ) };
+    ghost lent: { Self → List ℕ };
 
     // A page has a byte, and the last page starts within 64 bits.
     ghost paged: { (x : Self) → Paged (means x) };

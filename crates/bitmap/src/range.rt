@@ -14,7 +14,12 @@ pub(crate) fn page_count(byte_size: usize, page_size: PageSize, bits: usize) -> 
 }
 
 // The pages that `len` bytes from `start` on lie on, of `count` pages: from the first number up to the second.
-pub(crate) fn page_range(page_size: PageSize, count: usize, start: usize, len: usize) -> (usize, usize)
+pub(crate) fn page_range(
+    page_size: PageSize,
+    count: usize,
+    start: usize,
+    len: usize,
+) -> (usize, usize)
     ensures within { λ r. ⌜ r .1 ≤ count ⌝ }
     ensures pages { λ r. ⌜ ((n : ℕ) → spans («page_size» .value) count start len n ≡ (leb (r .0) n && ltb n (r .1))) ⌝ }
 {

@@ -18,15 +18,19 @@ impl<B> BaseSlice<B> {
         ensures inner { λ r. ⌜ r .inner ≡ inner ⌝ }
         ensures offset { λ r. ⌜ r .«base_offset» ≡ offset ⌝ }
     {
-        BaseSlice { inner, base_offset: offset }
+        BaseSlice {
+            inner,
+            base_offset: offset,
+        }
     }
 
-    /// The bitmap again.
-    pub fn into_inner(self) -> B
-        ensures { λ r. ⌜ r ≡ self .inner ⌝ }
+    /// The bitmap again, and the base offset.
+    pub fn into_parts(self) -> (B, usize)
+        ensures inner { λ r. ⌜ r .0 ≡ self .inner ⌝ }
+        ensures offset { λ r. ⌜ r .1 ≡ self .«base_offset» ⌝ }
     {
-        let BaseSlice { inner, base_offset: _ } = self;
-        inner
+        let BaseSlice { inner, base_offset } = self;
+        (inner, base_offset)
     }
 }
 
@@ -40,7 +44,8 @@ pub impl<B: Bitmap> Bitmap for BaseSlice<B> as BaseSliceBitmap {
     ghost bounded = { λ s. B·Bitmap .bounded (s .inner) };
 
     fn mark_dirty(&mut self, offset: usize, len: usize) {
-        self.inner.mark_dirty(self.base_offset.wrapping_add(offset), len)
+        self.inner
+            .mark_dirty(self.base_offset.wrapping_add(offset), len)
     }
 
     fn dirty_at(&self, offset: usize) -> bool {
@@ -62,6 +67,7 @@ pub impl<B: CleanBitmap> CleanBitmap for BaseSlice<B> as BaseSliceCleanBitmap {
     }
 
     fn reset_addr_range(&mut self, start_addr: usize, len: usize) {
-        self.inner.reset_addr_range(self.base_offset.wrapping_add(start_addr), len)
+        self.inner
+            .reset_addr_range(self.base_offset.wrapping_add(start_addr), len)
     }
 }

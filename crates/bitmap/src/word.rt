@@ -43,7 +43,11 @@ pub(crate) impl Word for u64 as U64Word {
     }
 
     fn with(self, k: usize, on: bool) -> u64 {
-        if on { self | (1 << k) } else { self & !(1 << k) }
+        if on {
+            self | (1 << k)
+        } else {
+            self & !(1 << k)
+        }
     }
 }
 
@@ -61,7 +65,11 @@ pub(crate) impl Word for u8 as U8Word {
     }
 
     fn with(self, k: usize, on: bool) -> u8 {
-        if on { self | (1 << k) } else { self & !(1 << k) }
+        if on {
+            self | (1 << k)
+        } else {
+            self & !(1 << k)
+        }
     }
 }
 

@@ -12,7 +12,7 @@ abbrev pub has-room : List ℕ → List ℕ → Bool
 has-room bs buf = leb (length bs) (length buf)
 
 -- a buffer with bytes laid at its start, its rest as it was; one without room stays as it is
-unfoldable pub laid : List ℕ → List ℕ → List ℕ
+abbrev pub laid : List ℕ → List ℕ → List ℕ
 laid bs buf = cond (has-room bs buf) (bs ++ drop (length bs) buf) buf
 
 -- what exactly z bytes make, and nothing of any other number of them

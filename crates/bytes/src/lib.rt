@@ -11,6 +11,29 @@ mod line_head;
 mod signed;
 mod unsigned;
 
+pub use line_head::LineHead;
+pub use line_head::LineHeadByteValued;
+pub use line_head::LineHeadDebug;
+pub use line_head::LineHeadPartialEq;
+pub use signed::I8AtomicAccess;
+pub use signed::I8ByteValued;
+pub use signed::I16AtomicAccess;
+pub use signed::I16ByteValued;
+pub use signed::I32AtomicAccess;
+pub use signed::I32ByteValued;
+pub use signed::I64AtomicAccess;
+pub use signed::I64ByteValued;
+pub use unsigned::U8AtomicAccess;
+pub use unsigned::U8ByteValued;
+pub use unsigned::U16AtomicAccess;
+pub use unsigned::U16ByteValued;
+pub use unsigned::U32AtomicAccess;
+pub use unsigned::U32ByteValued;
+pub use unsigned::U64AtomicAccess;
+pub use unsigned::U64ByteValued;
+pub use unsigned::UsizeAtomicAccess;
+pub use unsigned::UsizeByteValued;
+
 /// A kind of element: `size` bytes, from 1 to 64, that any such bytes make a value of.
 pub trait ByteValued: Copy {
     ghost size: { ℕ };
@@ -75,4 +98,3 @@ fn lay(bytes: &[u8], buf: &mut [u8]) -> Option<()>
     buf[0..bytes.len()].copy_from_slice(bytes);
     Some(())
 }
-

@@ -30,7 +30,13 @@ pub impl ByteValued for LineHead as LineHeadByteValued {
     }
 
     fn zeroed() -> LineHead {
-        LineHead { register: 0, leaf: 0, line: 0, left: 0, width: 0 }
+        LineHead {
+            register: 0,
+            leaf: 0,
+            line: 0,
+            left: 0,
+            width: 0,
+        }
     }
 
     fn from_slice(data: &[u8]) -> Option<LineHead> {
@@ -42,7 +48,13 @@ pub impl ByteValued for LineHead as LineHeadByteValued {
         let line = u16::from_slice(&data[6..8])?;
         let left = u16::from_slice(&data[8..10])?;
         let width = u16::from_slice(&data[10..12])?;
-        Some(LineHead { register, leaf, line, left, width })
+        Some(LineHead {
+            register,
+            leaf,
+            line,
+            left,
+            width,
+        })
     }
 
     fn write_to(self, buf: &mut [u8]) -> Option<()> {

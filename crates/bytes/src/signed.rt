@@ -2,10 +2,10 @@
 ghost use Rattle.bytes.specs.LittleEndian.{bytesOf, numberOf, complement, signedOf, Signed};
 use crate::AtomicAccess;
 use crate::ByteValued;
+use crate::unsigned::U8ByteValued;
 use crate::unsigned::U16ByteValued;
 use crate::unsigned::U32ByteValued;
 use crate::unsigned::U64ByteValued;
-use crate::unsigned::U8ByteValued;
 
 pub impl ByteValued for i8 as I8ByteValued {
     ghost size = { 1 };

@@ -147,7 +147,16 @@ pub impl ByteValued for usize as UsizeByteValued {
 
     fn from_slice(data: &[u8]) -> Option<usize> {
         match data {
-            [a, b, c, d, e, f, g, h] => Some(usize::from_le_bytes([*a, *b, *c, *d, *e, *f, *g, *h])),
+            [a, b, c, d, e, f, g, h] => Some(usize::from_le_bytes([
+                *a,
+                *b,
+                *c,
+                *d,
+                *e,
+                *f,
+                *g,
+                *h,
+            ])),
             _ => None,
         }
     }

@@ -2,6 +2,7 @@
 ghost use Prim.Native.Nat.{_/_, _*_};
 ghost use lib.ListN.{length, replicate};
 ghost use mathlib.Core.Bool.{true, false};
+ghost use mathlib.Core.List.{_∷_};
 ghost use mathlib.Core.Path.{_≡_};
 ghost use Rattle.bitmap.specs.Pages.{clean, page-count, dirty, with-bits, assigned, assigned-page, marked, cleaned};
 ghost use Rattle.bitmap.specs.Sound.{tracked-paged, tracked-bounded};
@@ -20,10 +21,14 @@ impl<'a> AtomicBitmap<'a> {
     pub fn new(byte_size: usize, page_size: PageSize, map: &'a mut [u64]) -> AtomicBitmap<'a>
         ensures means { λ r. ⌜ tracked r ≡ clean («page_size» .value) (page-count «byte_size» («page_size» .value) (64 * length (now (map .entry)))) ⌝ }
         ensures words { λ r. ⌜ now (r .map) ≡ replicate (length (now (map .entry))) 0 ⌝ }
-        ensures fixed { λ r. ⌜ fixed r ≡ («byte_size», loan (map .entry)) ⌝ }
+        ensures fixed { λ r. ⌜ fixed r ≡ «byte_size» ∷ loan (map .entry) ⌝ }
     {
         map.fill(0);
-        AtomicBitmap { map, byte_size, page_size: page_size.get() }
+        AtomicBitmap {
+            map,
+            byte_size,
+            page_size: page_size.get(),
+        }
     }
 
     /// Whether bit `index` is set; bits past the last page never are.
@@ -102,13 +107,16 @@ impl<'a> AtomicBitmap<'a> {
     pub fn len(&self) -> usize
         ensures { λ r. ⌜ r ≡ tracked (now (self .entry)) .count ⌝ }
     {
-        page_count(self.byte_size, self.page(), self.map.len().saturating_mul(64))
+        let bits = self.map.len().saturating_mul(64);
+        page_count(self.byte_size, self.page(), bits)
     }
 
     fn page(&self) -> PageSize
         ensures { λ r. ⌜ r .value ≡ tracked (now (self .entry)) .page ⌝ }
     {
-        PageSize { value: self.page_size.max(1) }
+        PageSize {
+            value: self.page_size.max(1),
+        }
     }
 
     /// The size in bytes that it was made for.
@@ -151,6 +159,6 @@ pub impl<'a> CleanBitmap for AtomicBitmap<'a> as AtomicBitmapCleanBitmap {
     }
 
     fn reset_addr_range(&mut self, start_addr: usize, len: usize) {
-        self.set_reset_addr_range(start_addr, len, false)
+        AtomicBitmap::reset_addr_range(self, start_addr, len)
     }
 }

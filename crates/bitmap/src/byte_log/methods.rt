@@ -29,7 +29,8 @@ impl<'a> ByteLog<'a> {
     pub fn len(&self) -> usize
         ensures { λ r. ⌜ r ≡ logged (now (self .entry)) .count ⌝ }
     {
-        page_count(self.byte_size, LOG_PAGE, self.log.len().saturating_mul(8))
+        let bits = self.log.len().saturating_mul(8);
+        page_count(self.byte_size, LOG_PAGE, bits)
     }
 
     fn set_reset_addr_range(&mut self, start_addr: usize, len: usize, set: bool)

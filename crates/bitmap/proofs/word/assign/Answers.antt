@@ -16,9 +16,9 @@ last first end n m on before h k l = grind (arith, tells)
 
 pub loop-n-again : need.loop-n-again
 loop-n-again g c = (
-    omega arith,
-    λ m. rw (c .put .ensures m, c .loop-n .inv .1 m) (next _ _ m _ _ (c .loop-n .kept .n))
-  )
+  omega arith,
+  λ m. rw (c .put .ensures m, c .loop-n .inv .1 m) (next _ _ m _ _ (c .loop-n .kept .n)),
+)
 
 pub returns : need.returns
 returns g c m = c .loop-n .inv .1 m ∙ last _ _ _ m _ _ (c .loop-n .kept .n) (c .loop-n-test .left) (c .loop-n .inv .0)

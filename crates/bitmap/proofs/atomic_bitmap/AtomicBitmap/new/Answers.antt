@@ -1,4 +1,5 @@
 use mathlib.Core.Path.{_≡_, sym, ap, _∙_}
+use mathlib.Core.List.{_∷_}
 use Prim.Native.Nat.{ℕ, _*_, max}
 use borrow.Author.Needs.{needs}
 use native.Mathlib.Omega.{arith}
@@ -14,5 +15,5 @@ returns c =
     record {
       means = ap (λ p. over (c .args .byte-size) p 64 (c .fill .last .self)) page ∙ ap (over (c .args .byte-size) (c .args .page-size .value) 64) cleared ∙ over-cleared (c .args .byte-size) (c .args .page-size .value) 64 (length (c .args .map .now));
       words = cleared;
-      fixed = ap (λ l. (c .args .byte-size, l)) (loan-kept (c .args .map) (c .fill .last .self) (c .fill .ensures .len));
+      fixed = ap (λ l. c .args .byte-size ∷ l) (loan-kept (c .args .map) (c .fill .last .self) (c .fill .ensures .len));
     }

@@ -1,4 +1,5 @@
 use mathlib.Core.Path.{refl, ap}
+use mathlib.Core.List.{_∷_}
 use Prim.Native.Nat.{ℕ, max}
 use borrow.Author.Needs.{needs}
 use native.Mathlib.Omega.{arith}
@@ -10,7 +11,7 @@ returns-then-index-len c =
     let b = c .args .self .now in
     record {
       means = over-assigned-page (b .«byte_size») (max 1 (b .«page_size»)) 64 (b .map .now) (c .put .last .words) (c .put .kept .words) (c .args .on) (c .args .index) (omega arith) (c .put .ensures);
-      fixed = ap (λ l. (b .«byte_size», l)) (loan-kept (b .map) (c .put .last .words) (c .put .kept .words));
+      fixed = ap (λ l. b .«byte_size» ∷ l) (loan-kept (b .map) (c .put .last .words) (c .put .kept .words));
     }
 
 pub returns-else-index-len : need.returns-else-index-len

@@ -1,4 +1,5 @@
 use mathlib.Core.Path.{_≡_, sym, ap, _∙_}
+use mathlib.Core.List.{_∷_}
 use Prim.Native.Nat.{ℕ, _*_, max}
 use borrow.Author.Needs.{needs}
 use lib.ListN.{length, replicate}
@@ -13,5 +14,5 @@ returns c =
     record {
       means = ap (over (b .«byte_size») (max 1 (b .«page_size»)) 64) cleared ∙ over-cleared (b .«byte_size») (max 1 (b .«page_size»)) 64 (length (b .map .now));
       words = cleared;
-      fixed = ap (λ l. (b .«byte_size», l)) (loan-kept (b .map) (c .fill .last .self) (c .fill .ensures .len));
+      fixed = ap (λ l. b .«byte_size» ∷ l) (loan-kept (b .map) (c .fill .last .self) (c .fill .ensures .len));
     }
