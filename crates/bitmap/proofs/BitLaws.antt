@@ -3,7 +3,8 @@ use mathlib.Core.Path.{_≡_, refl, sym, ap, _∙_}
 use mathlib.Core.Bool.{Bool, true, false, cond, not}
 use mathlib.Core.Logic.{inl, inr}
 use Prim.Native.Nat.{ℕ, zero, suc, _+_, _-_, _*_, _/_, _%_, _^_, _≤_, _<_, min, max}
-use native.Mathlib.Nat.{add-mul, div-eq-of-lt, div-self, zero-mul, div-div-eq-div-mul, pow-suc, mul-comm}
+use native.Mathlib.Nat.{add-mul, div-eq-of-lt, div-self, zero-mul, div-div-eq-div-mul, pow-suc, mul-comm, lt-of-lt-of-le}
+use lib.Pow.{pow-mono}
 use native.Mathlib.Omega.{arith}
 use lib.Bits.{bitAnd, bitOr, and-shr, or-shr, and-mod, or-mod, and-high, and-zero-l, or-zero-l, and-zero-r, or-zero-r}
 use lib.Dec.{eqb}
@@ -82,6 +83,10 @@ get-bit n k =
     let e : 2 ^ (1 + k) - 2 ^ k ≡ 2 ^ k = omega (arith, pow-add 2 1 k) in
     let masked : bitAnd n (2 ^ k) ≡ digit n k * 2 ^ k = ap (bitAnd n) (sym e) ∙ and-high n 1 k in
     rw masked (read (digit n k) (2 ^ k) (omega arith) (pow-pos k))
+
+-- a number of w bits has no bit from w on
+pub no-bit : (w n k : ℕ) → n < 2 ^ w → w ≤ k → bit-of n k ≡ false
+no-bit w n k fits past = rw (div-eq-of-lt (lt-of-lt-of-le fits (pow-mono past)))
 
 -- a bit set
 pub set-bit : (n k j : ℕ) → bit-of (bitOr n (2 ^ k)) j ≡ cond (eqb j k) true (bit-of n j)

@@ -18,14 +18,12 @@ pub(crate) trait Word: Copy {
     fn width_of() -> usize
         ensures { λ r. ⌜ r ≡ width ⌝ };
 
-    // Bit `k`.
+    // Bit `k`, clear past the last one.
     fn get(self, k: usize) -> bool
-        requires { ⌜ k < width ⌝ }
         ensures { λ r. ⌜ r ≡ bit self k ⌝ };
 
-    // The same word but for bit `k`.
+    // The same word but for bit `k`, if it has that bit.
     fn with(self, k: usize, on: bool) -> Self
-        requires { ⌜ k < width ⌝ }
         ensures { λ r. ⌜ ((j : ℕ) → j < width → bit r j ≡ cond (eqb j k) on (bit self j)) ⌝ };
 }
 
@@ -39,11 +37,13 @@ pub(crate) impl Word for u64 as U64Word {
     }
 
     fn get(self, k: usize) -> bool {
-        self & (1 << k) != 0
+        k < 64 && self & (1 << k) != 0
     }
 
     fn with(self, k: usize, on: bool) -> u64 {
-        if on {
+        if k >= 64 {
+            self
+        } else if on {
             self | (1 << k)
         } else {
             self & !(1 << k)
@@ -61,11 +61,13 @@ pub(crate) impl Word for u8 as U8Word {
     }
 
     fn get(self, k: usize) -> bool {
-        self & (1 << k) != 0
+        k < 8 && self & (1 << k) != 0
     }
 
     fn with(self, k: usize, on: bool) -> u8 {
-        if on {
+        if k >= 8 {
+            self
+        } else if on {
             self | (1 << k)
         } else {
             self & !(1 << k)

@@ -15,7 +15,7 @@ pub returns : need.returns
 returns c =
     let page = c .args .page-size .value in
     let first : c .args .start / c .get .result ≡ c .args .start / page = ap (λ x. c .args .start / x) (c .get .ensures) in
-    let last : c .saturating-add .result / c .get-2 .result ≡ min (c .args .start + (c .args .len - 1)) top / page = rw (c .get-2 .ensures) (ap (λ x. x / page) (c .saturating-add .ensures)) in
+    let last : c .last-byte .result / c .get-2 .result ≡ min (c .args .start + (c .args .len - 1)) top / page = rw (c .get-2 .ensures) (ap (λ x. x / page) (c .last-byte .ensures)) in
     record {
       within = omega arith;
       pages = λ n. spans-range page (c .args .count) (c .args .start) (c .args .len) n _ _ (c .min .result) (omega arith) (omega arith) first last (omega arith);
