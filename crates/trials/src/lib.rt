@@ -22,6 +22,8 @@ fn mark_first_and_last(log: &mut [u8])
 
 #[cfg(test)]
 mod tests;
+#[cfg(test)]
+mod view_tests;
 
 /// The worked examples stand, and a log of ten pages in which pages 0 and 9 are marked is the bytes 0x01, 0x02.
 pub fn worked_examples() -> (u8, u8)

@@ -9,6 +9,7 @@ use lib.ListN.{length, take, drop, getD, length-append, length-take}
 use borrow.Rule.Slice.PartMut.{putMid}
 use Rattle.std.proofs.shelf.Lists.{drop-drop, take-append-drop, take-at, drop-at, take-all, take-map, map-more}
 use Rattle.std.proofs.shelf.Tests.{cases-lt}
+use Rattle.std.specs.shelf.Lists.{All}
 use Rattle.volatile_memory.specs.Memory.{part, overlaid, joined}
 
 -- nothing laid is nothing changed
@@ -78,3 +79,8 @@ take-capped xs n k is =
 
 pub pieces : {X : Type 0} (f : X → List ℕ) (xs : List X) (n k : ℕ) → k ≡ min (length xs) n → joined (map f (take (k - 0) xs)) ≡ joined (take n (map f xs))
 pieces f xs n k is = ap (λ ys. joined (map f ys)) (take-capped xs n k is) ∙ ap joined (sym (take-map f n xs))
+
+-- pieces that are each z bytes long
+pub length-pieces : (z : ℕ) (xss : List (List ℕ)) → All (λ xs. length xs ≡ z) xss → length (joined xss) ≡ length xss * z
+length-pieces z [] each = sym (zero-mul z)
+length-pieces z (xs ∷ xss) (one, more) = length-append xs (joined xss) ∙ rw (one, length-pieces z xss more) (omega (arith, suc-mul (length xss) z))

@@ -136,7 +136,11 @@ pub impl<'a> Bitmap for AtomicBitmap<'a> as AtomicBitmapBitmap {
 
     ghost bounded = { tracked-bounded };
 
-    fn mark_dirty(&mut self, offset: usize, len: usize) {
+    fn mark_dirty(&mut self, offset: usize, len: usize)
+        ensures marks { λ _. ⌜ tracked (now (self .exit)) ≡ marked (tracked (now (self .entry))) offset len ⌝ }
+        ensures lent { λ _. ⌜ loan (now (self .exit) .map) ≡ loan (now (self .entry) .map) ⌝ }
+        ensures fixed { λ _. ⌜ fixed (now (self .exit)) ≡ fixed (now (self .entry)) ⌝ }
+    {
         self.set_addr_range(offset, len)
     }
 
@@ -158,7 +162,11 @@ pub impl<'a> CleanBitmap for AtomicBitmap<'a> as AtomicBitmapCleanBitmap {
         0
     }
 
-    fn reset_addr_range(&mut self, start_addr: usize, len: usize) {
+    fn reset_addr_range(&mut self, start_addr: usize, len: usize)
+        ensures cleans { λ _. ⌜ tracked (now (self .exit)) ≡ cleaned (tracked (now (self .entry))) «start_addr» len ⌝ }
+        ensures lent { λ _. ⌜ loan (now (self .exit) .map) ≡ loan (now (self .entry) .map) ⌝ }
+        ensures fixed { λ _. ⌜ fixed (now (self .exit)) ≡ fixed (now (self .entry)) ⌝ }
+    {
         AtomicBitmap::reset_addr_range(self, start_addr, len)
     }
 }
