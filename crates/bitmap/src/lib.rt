@@ -1,4 +1,6 @@
 //! Dirty bitmaps: which pages of a memory were written to.
+#![tactic(auto)]
+
 ghost use Rattle.std.specs.Prelude.{◌≡◌, ℕ, List};
 ghost use Rattle.bitmap.specs.Pages.{Meaning, Paged, Bounded, marked, cleaned, dirty_at};
 

@@ -1,4 +1,6 @@
 //! The law of the copy, over any list of calls on a memory and its bitmap, and the call that carries it.
+#![tactic(auto)]
+
 ghost use Rattle.std.specs.Prelude.{◌≡◌, length};
 ghost use Rattle.volatile_memory.specs.Faults.{said};
 ghost use Rattle.volatile_memory.specs.Spans.{span};
@@ -10,7 +12,7 @@ ghost use Rattle.mirror.specs.Refresh.{refreshes, copy_then, Mirrors};
 ghost use Rattle.mirror.specs.Runs.{Run, Fits};
 
 use bitmap::CleanBitmap;
-use bytes::ByteValued;
+use elements::ByteValued;
 use parcel::{Taken, apply, take};
 use volatile_memory::{Error, VolatileRef};
 

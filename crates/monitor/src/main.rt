@@ -1,4 +1,6 @@
 //! Tells which pages of a memory the accesses of a trace make dirty.
+#![tactic(auto)]
+
 mod account;
 mod memory;
 mod page_range;

@@ -3,7 +3,7 @@ use crate::account::{add_page, write_ranges};
 use crate::files::{read_file, write_file};
 use crate::page_range::PageRange;
 use bitmap::ByteLog;
-use bytes::ByteValued;
+use elements::ByteValued;
 use faults::Error as Refusal;
 use parcel::{Contents, apply, inspect, take};
 use std::alloc::{AllocError, Global};

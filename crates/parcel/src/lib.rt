@@ -2,6 +2,8 @@
 //!
 //! A parcel has the page size, the number of its pages and the memory's length, then the number of each page, then the
 //! bytes of each page. A number has 8 bytes, the least significant first. The memory's last page may be short.
+#![tactic(auto)]
+
 mod applying;
 mod inspecting;
 mod layout;

@@ -1,4 +1,6 @@
 //! Worked examples of claims and parcels: proved of the definitions, and run.
+#![tactic(auto)]
+
 ghost use Rattle.parcel_trials.specs.Worked.{Worked};
 
 #[cfg(test)]

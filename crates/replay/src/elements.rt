@@ -3,7 +3,7 @@ use crate::fault::Fault;
 use crate::outcome::Outcome;
 use crate::value::Element;
 use bitmap::AtomicBitmap;
-use bytes::LineHead;
+use elements::LineHead;
 use mirror::refresh;
 use parcel::Taken;
 use script::{ElementCall, Kind, Value};

@@ -1,4 +1,6 @@
 //! Scripts of calls over one memory and one bitmap, played, and the account of what they answered.
+#![tactic(auto)]
+
 mod account;
 mod atomics;
 mod claims;

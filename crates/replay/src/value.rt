@@ -1,5 +1,5 @@
 //! Values of elements, as a script writes them.
-use bytes::{ByteValued, LineHead};
+use elements::{ByteValued, LineHead};
 use script::Value;
 use std::fmt;
 

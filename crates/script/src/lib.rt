@@ -1,4 +1,6 @@
 //! Scripts of calls over one memory and one bitmap, as text.
+#![tactic(auto)]
+
 mod command;
 mod commands;
 mod fault;

@@ -1,4 +1,6 @@
 //! Text that the program reads, line by line, and page maps as it prints them.
+#![tactic(auto)]
+
 mod numbers;
 mod page_map;
 mod reading;

@@ -1,4 +1,6 @@
 //! Worked examples: proved of the definitions, and run.
+#![tactic(auto)]
+
 ghost use Rattle.std.specs.Prelude.{◌≡◌, ℕ, ◌<◌, slice_index};
 ghost use Rattle.bitmap.specs.Pages.{marked};
 ghost use Rattle.bitmap.specs.Storage.{bit_of, stored};

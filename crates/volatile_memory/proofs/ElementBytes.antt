@@ -2,7 +2,7 @@
 use Rattle.std.proofs.Common.{◌≡◌, ℕ, ◌+◌, ◌-◌, ◌<◌, ◌≤◌, cond, eqb, leb, List, [], ◌++◌, length, take, drop, Some, None, sym, refl, ap, ◌∙◌, inl, inr, append-nil, arith}
 use Rattle.std.proofs.lemmas.List.{drop_all, take_at}
 use Rattle.std.proofs.lemmas.Bool.{cases_Bool, cond-true, cond-false, le-leb}
-use Rattle.bytes.specs.Buffers.{laid, made_of, has_room}
+use Rattle.elements.specs.Buffers.{laid, made_of, has_room}
 use Rattle.volatile_memory.specs.Calls.{only, lays, unless_refused}
 use Rattle.volatile_memory.specs.Faults.{Fault, Answer}
 use Rattle.volatile_memory.specs.Faults.Answer.{gives, refuses}

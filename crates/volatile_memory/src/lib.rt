@@ -1,4 +1,6 @@
 //! Checked views of a guest's memory, as plain numbers: memory and bitmap are handed to each call that touches them.
+#![tactic(auto)]
+
 mod claim;
 mod error;
 mod moves;

@@ -1,6 +1,6 @@
 //! A view of elements in a row.
 use crate::VolatileSlice;
-use bytes::ByteValued;
+use elements::ByteValued;
 
 mod access;
 mod copies;

@@ -1,6 +1,6 @@
 //! A view of one element.
 use crate::VolatileSlice;
-use bytes::ByteValued;
+use elements::ByteValued;
 
 mod access;
 mod cuts;

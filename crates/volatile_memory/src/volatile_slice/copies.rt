@@ -9,7 +9,7 @@ use super::VolatileSlice;
 use crate::Error;
 use crate::moves::move_bytes;
 use bitmap::Bitmap;
-use bytes::ByteValued;
+use elements::ByteValued;
 
 impl VolatileSlice {
     // Refuses a memory of `length` bytes in which the view does not lie.

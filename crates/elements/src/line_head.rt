@@ -1,8 +1,8 @@
 //! The head of a line on a register's leaf.
-ghost use Rattle.bytes.specs.Heads.{head_bytes, head_value, Head};
-ghost use Rattle.bytes.specs.ByteLaws.{unsigned_again, unsigned_part};
+ghost use Rattle.elements.specs.Heads.{head_bytes, head_value, Head};
+ghost use Rattle.elements.specs.ByteLaws.{unsigned_again, unsigned_part};
 ghost use Rattle.std.proofs.Common.{arith, rules};
-ghost use Rattle.bytes.specs.LineHeadByteValuedLemmas.{parts};
+ghost use Rattle.elements.specs.LineHeadByteValuedLemmas.{parts};
 
 use crate::{ByteValued, lay};
 

@@ -1,7 +1,9 @@
 //! Elements: values that are a fixed number of bytes, and the integers among them that are accessed atomically.
+#![tactic(auto)]
+
 ghost use Rattle.std.specs.Prelude.{◌≡◌, ℕ, ◌<◌, ◌≤◌, List, length, replicate, is_some, IfSome};
-ghost use Rattle.bytes.specs.LittleEndian.{Bytes};
-ghost use Rattle.bytes.specs.Buffers.{has_room, laid, made_of};
+ghost use Rattle.elements.specs.LittleEndian.{Bytes};
+ghost use Rattle.elements.specs.Buffers.{has_room, laid, made_of};
 
 mod line_head;
 mod signed;
