@@ -78,8 +78,8 @@ impl Word for u8 {
 
 // Bit `n` of a row of words.
 pub(crate) fn get<W: Word>(words: &[W], n: usize) -> bool
-    requires { n < width * length words.now }
-    ensures { result ≡ stored bit width words.now n }
+    requires { n < W.width * length words.now }
+    ensures { result ≡ stored W.bit W.width words.now n }
 {
     let width = W::width_of();
     words[n / width].get(n % width)
@@ -87,8 +87,8 @@ pub(crate) fn get<W: Word>(words: &[W], n: usize) -> bool
 
 // Sets or clears bit `n` of a row of words.
 pub(crate) fn put<W: Word>(words: &mut [W], n: usize, on: bool)
-    requires { n < width * length words.old }
-    ensures { (m : ℕ) → stored bit width words.new m ≡ (if nat_eq m n then on else stored bit width words.old m) }
+    requires { n < W.width * length words.old }
+    ensures { (m : ℕ) → stored W.bit W.width words.new m ≡ (if nat_eq m n then on else stored W.bit W.width words.old m) }
 {
     let width = W::width_of();
     let word = &mut words[n / width];
@@ -97,8 +97,8 @@ pub(crate) fn put<W: Word>(words: &mut [W], n: usize, on: bool)
 
 // Sets or clears the bits from `first` up to `end`.
 pub(crate) fn assign<W: Word>(words: &mut [W], first: usize, end: usize, on: bool)
-    requires { end ≤ width * length words.old }
-    ensures { (m : ℕ) → stored bit width words.new m ≡ (if nat_le first m && nat_lt m end then on else stored bit width words.old m) }
+    requires { end ≤ W.width * length words.old }
+    ensures { (m : ℕ) → stored W.bit W.width words.new m ≡ (if nat_le first m && nat_lt m end then on else stored W.bit W.width words.old m) }
 {
     for n in first..end {
         put(words, n, on);

@@ -18,37 +18,37 @@ kind g =
 abbrev calls : (g : given.Over) → MakesRuns g.T.ByteValued.size g.T.ByteValued.bytes
 calls g = calls_make_runs g.T.ByteValued.size g.T.ByteValued.bytes (λ x. (g.met.T.ByteValued.exact x).0)
 
-pub returns-in-err-taken : goal.returns-in-err-taken
-returns-in-err-taken g c =
-    let t = c.in-err-taken.ensures in
-    let p = err_from_is_err_and c.from-residual.result c.from-residual.ensures.1 in
-    let w = untaken_owed (kind g) (span c.args.element.now.slice) c.args.memory.now (g.B.Bitmap.means c.args.bitmap.now) c.args.buf.now c.args.copy.now c.numbers-fit.ensures (g.B.Bitmap.means c.take.new.bitmap) t.means _ t.answer in
+pub returns-in_err-taken : goal.returns-in_err-taken
+returns-in_err-taken g c =
+    let t = c.in_err-taken.ensures in
+    let p = err_from_is_err_and c.from_residual.result c.from_residual.ensures.1 in
+    let w = untaken_owed (kind g) (span c.args.element.now.slice) c.args.memory.now (g.B.Bitmap.means c.args.bitmap.now) c.args.buf.now c.args.copy.now c.numbers_fit.ensures (g.B.Bitmap.means c.take.new.bitmap) t.means _ t.answer in
     rw (p.1, p.2) (record { answer = w.answer; buffer = t.buffer; means = t.means; lent = t.lent; copy = w.copy-is; law = w.law; calls = calls g })
 
-pub slice-bounds-apply-end : goal.slice-bounds-apply-end
-slice-bounds-apply-end g c =
-    let t = c.in-ok-taken.ensures in
-    omega (arith, parcel_fits (g.B.Bitmap.means c.args.bitmap.now) c.args.memory.now c.args.buf.now c.take.new.buf _ c.in-ok-taken.taken.length c.in-ok-taken.taken.pages t.answer t.buffer)
+pub slice_bounds-apply-end : goal.slice_bounds-apply-end
+slice_bounds-apply-end g c =
+    let t = c.in_ok-taken.ensures in
+    omega (arith, parcel_fits (g.B.Bitmap.means c.args.bitmap.now) c.args.memory.now c.args.buf.now c.take.new.buf _ c.in_ok-taken.taken.length c.in_ok-taken.taken.pages t.answer t.buffer)
 
-pub returns-in-err-apply : goal.returns-in-err-apply
-returns-in-err-apply g c =
-    let t = c.in-ok-taken.ensures in
-    let a = c.in-err-apply.ensures in
-    let p = err_from_is_err_and c.from-residual-in-err-apply.result c.from-residual-in-err-apply.ensures.1 in
-    let w = unapplied_owed (kind g) (span c.args.element.now.slice) c.args.memory.now (g.B.Bitmap.means c.args.bitmap.now) c.args.buf.now c.args.copy.now c.numbers-fit.ensures (g.B.Bitmap.means c.take.new.bitmap) t.means c.take.new.buf c.apply.new.copy c.in-ok-taken.taken.length c.in-ok-taken.taken.pages t.answer t.buffer a.after _ a.answer in
+pub returns-in_err-apply : goal.returns-in_err-apply
+returns-in_err-apply g c =
+    let t = c.in_ok-taken.ensures in
+    let a = c.in_err-apply.ensures in
+    let p = err_from_is_err_and c.from_residual-in_err-apply.result c.from_residual-in_err-apply.ensures.1 in
+    let w = unapplied_owed (kind g) (span c.args.element.now.slice) c.args.memory.now (g.B.Bitmap.means c.args.bitmap.now) c.args.buf.now c.args.copy.now c.numbers_fit.ensures (g.B.Bitmap.means c.take.new.bitmap) t.means c.take.new.buf c.apply.new.copy c.in_ok-taken.taken.length c.in_ok-taken.taken.pages t.answer t.buffer a.after _ a.answer in
     rw (p.1, p.2) (record { answer = w.answer; buffer = t.buffer; means = t.means; lent = t.lent; copy = w.copy-is; law = w.law; calls = calls g })
 
-pub returns-in-err-element : goal.returns-in-err-element
-returns-in-err-element g c =
-    let t = c.in-ok-taken.ensures in
-    let a = c.in-ok-apply.ensures in
-    let p = err_from_is_err_and c.from-residual-in-err-element.result c.from-residual-in-err-element.ensures.1 in
-    let w = loaded_owed (kind g) (span c.args.element.now.slice) c.args.memory.now (g.B.Bitmap.means c.args.bitmap.now) c.args.buf.now c.args.copy.now c.numbers-fit.ensures (g.B.Bitmap.means c.take.new.bitmap) t.means c.take.new.buf c.apply.new.copy c.in-ok-taken.taken.length c.in-ok-taken.taken.pages t.answer t.buffer a.after a.answer _ c.in-err-element.ensures in
+pub returns-in_err-element : goal.returns-in_err-element
+returns-in_err-element g c =
+    let t = c.in_ok-taken.ensures in
+    let a = c.in_ok-apply.ensures in
+    let p = err_from_is_err_and c.from_residual-in_err-element.result c.from_residual-in_err-element.ensures.1 in
+    let w = loaded_owed (kind g) (span c.args.element.now.slice) c.args.memory.now (g.B.Bitmap.means c.args.bitmap.now) c.args.buf.now c.args.copy.now c.numbers_fit.ensures (g.B.Bitmap.means c.take.new.bitmap) t.means c.take.new.buf c.apply.new.copy c.in_ok-taken.taken.length c.in_ok-taken.taken.pages t.answer t.buffer a.after a.answer _ c.in_err-element.ensures in
     rw (p.1, p.2) (record { answer = w.answer; buffer = t.buffer; means = t.means; lent = t.lent; copy = w.copy-is; law = w.law; calls = calls g })
 
 pub returns : goal.returns
 returns g c =
-    let t = c.in-ok-taken.ensures in
-    let a = c.in-ok-apply.ensures in
-    let w = loaded_owed (kind g) (span c.args.element.now.slice) c.args.memory.now (g.B.Bitmap.means c.args.bitmap.now) c.args.buf.now c.args.copy.now c.numbers-fit.ensures (g.B.Bitmap.means c.take.new.bitmap) t.means c.take.new.buf c.apply.new.copy c.in-ok-taken.taken.length c.in-ok-taken.taken.pages t.answer t.buffer a.after a.answer _ c.in-ok-element.ensures in
+    let t = c.in_ok-taken.ensures in
+    let a = c.in_ok-apply.ensures in
+    let w = loaded_owed (kind g) (span c.args.element.now.slice) c.args.memory.now (g.B.Bitmap.means c.args.bitmap.now) c.args.buf.now c.args.copy.now c.numbers_fit.ensures (g.B.Bitmap.means c.take.new.bitmap) t.means c.take.new.buf c.apply.new.copy c.in_ok-taken.taken.length c.in_ok-taken.taken.pages t.answer t.buffer a.after a.answer _ c.in_ok-element.ensures in
     record { answer = w.answer; buffer = t.buffer; means = t.means; lent = t.lent; copy = w.copy-is; law = w.law; calls = calls g }

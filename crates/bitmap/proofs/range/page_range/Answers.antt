@@ -13,7 +13,7 @@ pub returns : goal.returns
 returns c =
     let page = c.args.page_size.value in
     let first : c.args.start / c.get.result ≡ c.args.start / page = ap (λ x. c.args.start / x) c.get.ensures in
-    let last : c.last-byte.result / c.get-2.result ≡ min (c.args.start + (c.args.len - 1)) top / page = rw c.get-2.ensures (ap (λ x. x / page) c.last-byte.ensures) in
+    let last : c.last_byte.result / c.get-2.result ≡ min (c.args.start + (c.args.len - 1)) top / page = rw c.get-2.ensures (ap (λ x. x / page) c.last_byte.ensures) in
     record {
       within = omega arith;
       pages = λ n. spans_range page c.args.count c.args.start c.args.len n _ _ c.min.result (omega arith) (omega arith) first last (omega arith);

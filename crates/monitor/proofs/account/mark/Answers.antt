@@ -9,6 +9,6 @@ returns c =
     let b = tracked c.args.map.now in
     let access = c.args.access in
     record {
-      turned = c.in-ok-turned.ensures ∙ turned-marked b access.offset access.len ∙ ap (turned b) (sym c.mark-dirty.ensures.marks);
-      means = c.mark-dirty.ensures.marks;
+      turned = c.in_ok-turned.ensures ∙ turned-marked b access.offset access.len ∙ ap (turned b) (sym c.mark_dirty.ensures.marks);
+      means = c.mark_dirty.ensures.marks;
     }

@@ -12,9 +12,9 @@ loop-access-preserved c =
     let new = tracked c.mark.new.map in
     let xs = c.args.accesses.now in
     let i = c.loop-access.access-index in
-    let marks = c.in-ok-turned.ensures in
+    let marks = c.in_ok-turned.ensures in
     let inv = c.loop-access.invariant in (
-      ap told c.in-ok-push.ensures.items ∙ turns_more b old new xs i _ c.loop-access-test.true inv.1 marks.means (vec_items c.loop-access.entries) _ inv.0 refl marks.turned,
+      ap told c.in_ok-push.ensures.items ∙ turns_more b old new xs i _ c.loop-access-test.true inv.1 marks.means (vec_items c.loop-access.entries) _ inv.0 refl marks.turned,
       after_more b old new xs i _ c.loop-access-test.true inv.1 marks.means,
     )
 

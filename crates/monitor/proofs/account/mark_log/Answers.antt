@@ -15,8 +15,8 @@ over-size size size' xs ys long same =
 pub loop-access-preserved : goal.loop-access-preserved
 loop-access-preserved c =
     let inv = c.loop-access.invariant in (
-      after_more (logged c.new-log.result) (logged c.loop-access.log) (logged c.mark-dirty.new.self) c.args.accesses.now c.loop-access.access-index _ c.loop-access-test.true inv.0 c.mark-dirty.ensures.marks,
-      c.mark-dirty.ensures.lent ∙ inv.1,
+      after_more (logged c.new-log.result) (logged c.loop-access.log) (logged c.mark_dirty.new.self) c.args.accesses.now c.loop-access.access-index _ c.loop-access-test.true inv.0 c.mark_dirty.ensures.marks,
+      c.mark_dirty.ensures.lent ∙ inv.1,
     )
 
 pub returns : goal.returns

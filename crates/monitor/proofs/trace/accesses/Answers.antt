@@ -22,7 +22,7 @@ accesses-more ls i d xs ys a less h put here =
     subst P (sym next) (subst Q (sym put) (accesses-push (numbered (take i ls)) xs (l.number, l.text.now) a h here))
 
 pub loop-line-preserved : goal.loop-line-preserved
-loop-line-preserved c = accesses-more c.args.lines.now c.loop-line.line-index _ (vec_items c.loop-line.accesses) _ c.in-ok-access.field-0 c.loop-line-test.true c.loop-line.invariant c.in-ok-push.ensures.items c.in-ok-access.ensures
+loop-line-preserved c = accesses-more c.args.lines.now c.loop-line.line-index _ (vec_items c.loop-line.accesses) _ c.in_ok-access.field-0 c.loop-line-test.true c.loop-line.invariant c.in_ok-push.ensures.items c.in_ok-access.ensures
 
 pub returns : goal.returns
 returns c =

@@ -8,22 +8,22 @@ use Rattle.parcel.specs.Rules.{rules, told-length}
 use Rattle.parcel.proofs.AppliedSteps.{kept-rules, rules-told}
 use Rattle.parcel.proofs.inspecting.inspect.Goals as goal
 
-pub returns-in-err-check-parcel : goal.returns-in-err-check-parcel
-returns-in-err-check-parcel c =
-    let p = err_from_is_err_and c.from-residual.result c.from-residual.ensures.1 in
-    let e = c.in-err-check-parcel.ensures ∙ ap (λ n. rules n c.args.parcel.now) c.told-length-total.ensures ∙ rules-told c.args.parcel.now in
+pub returns-in_err-check_parcel : goal.returns-in_err-check_parcel
+returns-in_err-check_parcel c =
+    let p = err_from_is_err_and c.from_residual.result c.from_residual.ensures.1 in
+    let e = c.in_err-check_parcel.ensures ∙ ap (λ n. rules n c.args.parcel.now) c.told_length-total.ensures ∙ rules-told c.args.parcel.now in
     rw (p.1, p.2, ← e)
 
-pub number-at-requires : goal.number-at-requires
-number-at-requires c = omega (arith, (kept-rules c.told-length-total.result c.args.parcel.now c.in-ok-check-parcel.ensures).head.long)
+pub number_at-requires : goal.number_at-requires
+number_at-requires c = omega (arith, (kept-rules c.told_length-total.result c.args.parcel.now c.in_ok-check_parcel.ensures).head.long)
 
-pub number-at-requires-2 : goal.number-at-requires-2
-number-at-requires-2 c = omega (arith, (kept-rules c.told-length-total.result c.args.parcel.now c.in-ok-check-parcel.ensures).head.long)
+pub number_at-requires-2 : goal.number_at-requires-2
+number_at-requires-2 c = omega (arith, (kept-rules c.told_length-total.result c.args.parcel.now c.in_ok-check_parcel.ensures).head.long)
 
 pub returns : goal.returns
 returns c =
     let bs = c.args.parcel.now in
-    let long = (kept-rules c.told-length-total.result bs c.in-ok-check-parcel.ensures).head.long in
-    let right : rules (number_at bs 2) bs ≡ gives 0 = sym (rules-told bs) ∙ ap (λ n. rules n bs) (sym c.told-length-total.ensures) ∙ sym c.in-ok-check-parcel.ensures in
-    let total : c.told-length-total.result ≡ number_at bs 2 = c.told-length-total.ensures ∙ cond-false _ _ _ (le-ltb (length bs) 24 long) in
-    rw (right, total, c.number-at.ensures, c.number-at-2.ensures)
+    let long = (kept-rules c.told_length-total.result bs c.in_ok-check_parcel.ensures).head.long in
+    let right : rules (number_at bs 2) bs ≡ gives 0 = sym (rules-told bs) ∙ ap (λ n. rules n bs) (sym c.told_length-total.ensures) ∙ sym c.in_ok-check_parcel.ensures in
+    let total : c.told_length-total.result ≡ number_at bs 2 = c.told_length-total.ensures ∙ cond-false _ _ _ (le-ltb (length bs) 24 long) in
+    rw (right, total, c.number_at.ensures, c.number_at-2.ensures)

@@ -4,9 +4,9 @@ use Rattle.parcel.proofs.taking.lay_head.Goals as goal
 
 pub returns : goal.returns
 returns c =
-    let second : c.lay-number-second.result ≡ 8 = omega arith in
-    let third : c.lay-number-third.result ≡ 16 = omega arith in
+    let second : c.lay_number-second.result ≡ 8 = omega arith in
+    let third : c.lay_number-third.result ≡ 16 = omega arith in
     record {
       end = omega arith;
-      after = c.lay-number.ensures.after ∙ rw (c.lay-number-third.ensures.after, c.lay-number-second.ensures.after, third, second) (head-laid c.args.buf.now c.args.layout.page c.args.count c.args.layout.total c.requires);
+      after = c.lay_number.ensures.after ∙ rw (c.lay_number-third.ensures.after, c.lay_number-second.ensures.after, third, second) (head-laid c.args.buf.now c.args.layout.page c.args.count c.args.layout.total c.requires);
     }

@@ -9,23 +9,23 @@ use Rattle.parcel.proofs.taking.lay_parcel.Goals as goal
 same-pages : (b : Meaning) (memory : List ℕ) (page total : ℕ) → b.page ≡ page → total ≡ length memory → dirty_below (dirty b) (pages total page) ≡ dirty-pages b memory
 same-pages b memory page total page-is total-is = ap₂ (λ n p. dirty_below (dirty b) (pages n p)) total-is (sym page-is)
 
-pub lay-head-head-requires : goal.lay-head-head-requires
-lay-head-head-requires g c =
+pub lay_head-head-requires : goal.lay_head-head-requires
+lay_head-head-requires g c =
     omega (arith, c.requires.room, length-parcel c.args.layout.page c.args.memory.now (dirty-pages (g.B.Bitmap.means c.args.bitmap.now) c.args.memory.now))
 
-pub lay-numbers-numbers-requires : goal.lay-numbers-numbers-requires
-lay-numbers-numbers-requires g c =
+pub lay_numbers-numbers-requires : goal.lay_numbers-numbers-requires
+lay_numbers-numbers-requires g c =
     let b = g.B.Bitmap.means c.args.bitmap.now in
     let same = same-pages b c.args.memory.now c.args.layout.page c.args.layout.total c.requires.start.1 c.requires.total in
-    (c.requires.start, omega (arith, ap length same, c.lay-head-head.ensures.end, c.requires.room, length-parcel c.args.layout.page c.args.memory.now (dirty-pages b c.args.memory.now)))
+    (c.requires.start, omega (arith, ap length same, c.lay_head-head.ensures.end, c.requires.room, length-parcel c.args.layout.page c.args.memory.now (dirty-pages b c.args.memory.now)))
 
-pub lay-pages-requires : goal.lay-pages-requires
-lay-pages-requires g c =
+pub lay_pages-requires : goal.lay_pages-requires
+lay_pages-requires g c =
     let b = g.B.Bitmap.means c.args.bitmap.now in
     let p = c.args.layout.page in
     let memory = c.args.memory.now in
     let same = same-pages b memory p c.args.layout.total c.requires.start.1 c.requires.total in
-    (c.requires.start, c.requires.total, omega (arith, ap length same, ap₂ (λ n qs. sum_of (page_length p n) qs) c.requires.total same, c.lay-head-head.ensures.end, c.lay-numbers-numbers.ensures.end, c.requires.room, length-parcel p memory (dirty-pages b memory)))
+    (c.requires.start, c.requires.total, omega (arith, ap length same, ap₂ (λ n qs. sum_of (page_length p n) qs) c.requires.total same, c.lay_head-head.ensures.end, c.lay_numbers-numbers.ensures.end, c.requires.room, length-parcel p memory (dirty-pages b memory)))
 
 pub returns : goal.returns
 returns g c =
@@ -34,6 +34,6 @@ returns g c =
     let memory = c.args.memory.now in
     let buf = c.args.buf.now in
     let same = same-pages b memory p c.args.layout.total c.requires.start.1 c.requires.total in
-    let at_is : c.lay-numbers-numbers.result ≡ 24 + 8 * length (dirty-pages b memory) = omega (arith, ap length same, c.lay-head-head.ensures.end, c.lay-numbers-numbers.ensures.end) in
+    let at_is : c.lay_numbers-numbers.result ≡ 24 + 8 * length (dirty-pages b memory) = omega (arith, ap length same, c.lay_head-head.ensures.end, c.lay_numbers-numbers.ensures.end) in
     let heads : overlaid buf 0 (words (p ∷ c.args.count ∷ c.args.layout.total ∷ [])) ≡ overlaid buf 0 (words (p ∷ length (dirty-pages b memory) ∷ length memory ∷ [])) = ap₂ (λ k n. overlaid buf 0 (words (p ∷ k ∷ n ∷ []))) c.requires.count c.requires.total in
-    c.lay-pages.ensures ∙ rw (c.lay-numbers-numbers.ensures.after, c.lay-head-head.ensures.after, heads, c.lay-head-head.ensures.end, at_is, same) (parcel-laid p memory (dirty-pages b memory) buf c.requires.room)
+    c.lay_pages.ensures ∙ rw (c.lay_numbers-numbers.ensures.after, c.lay_head-head.ensures.after, heads, c.lay_head-head.ensures.end, at_is, same) (parcel-laid p memory (dirty-pages b memory) buf c.requires.room)

@@ -3,7 +3,7 @@ use Rattle.bitmap.specs.Pages.{dirty}
 use Rattle.parcel.specs.Parcels.{page_length, dirty_below, sum_of}
 use Rattle.parcel.proofs.DirtyList.{dirty_none, dirty_next, clean_next, dirty-count, bytes_within, sum_push}
 use Rattle.parcel.proofs.taking.measure.Goals as goal
-use Rattle.parcel.proofs.taking.measure.Goals.{then-is-dirty, else-is-dirty}
+use Rattle.parcel.proofs.taking.measure.Goals.{then-is_dirty, else-is_dirty}
 
 pub loop-q-init : goal.loop-q-init
 loop-q-init g c =
@@ -22,13 +22,13 @@ loop-q-preserved g c =
     let d : ℕ → Bool = dirty (g.B.Bitmap.means c.args.bitmap.now) in
     let q = c.loop-q.q in
     let size : ℕ → ℕ = page_length c.args.layout.page c.args.layout.total in
-    elim c.if-is-dirty.branch [
-      | then-is-dirty w ↦
-          let next = dirty_next d q (sym w.if-is-dirty.ensures) in (
+    elim c.if-is_dirty.branch [
+      | then-is_dirty w ↦
+          let next = dirty_next d q (sym w.if-is_dirty.ensures) in (
             omega (arith, w.pages-is, ap length next, length-append (dirty_below d q) (q ∷ [])),
             omega (arith, w.bytes_is, ap (sum_of size) next, sum_push size (dirty_below d q) q),
           )
-      | else-is-dirty w ↦
-          let next = clean_next d q (sym w.if-is-dirty.ensures) in
+      | else-is_dirty w ↦
+          let next = clean_next d q (sym w.if-is_dirty.ensures) in
           (omega (arith, w.pages-is, ap length next), omega (arith, w.bytes_is, ap (sum_of size) next))
     ]

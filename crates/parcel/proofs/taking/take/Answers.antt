@@ -7,38 +7,38 @@ use Rattle.parcel.specs.Parcels.{pages, dirty_below, dirty-pages, parcel, due}
 use Rattle.parcel.proofs.TakenSteps.{cover_start, cover_enough, room_found, owed_is, taken-uncovered, taken_short, taken_gives, swept-cleaned}
 use Rattle.parcel.proofs.taking.take.Goals as goal
 
-pub returns-in-err-check-cover : goal.returns-in-err-check-cover
-returns-in-err-check-cover g c =
-    let p = err_from_is_err_and c.from-residual.result c.from-residual.ensures.1 in
-    let e = taken-uncovered (g.B.Bitmap.means c.args.bitmap.now) c.args.memory.now (length c.args.buf.now) _ c.in-err-check-cover.ensures in
+pub returns-in_err-check_cover : goal.returns-in_err-check_cover
+returns-in_err-check_cover g c =
+    let p = err_from_is_err_and c.from_residual.result c.from_residual.ensures.1 in
+    let e = taken-uncovered (g.B.Bitmap.means c.args.bitmap.now) c.args.memory.now (length c.args.buf.now) _ c.in_err-check_cover.ensures in
     rw (p.1, p.2, e) (record { answer = refl; buffer = refl; means = refl; lent = refl })
 
 pub measure-carried-requires : goal.measure-carried-requires
 measure-carried-requires g c = (
-  cover_start (g.B.Bitmap.means c.args.bitmap.now) (length c.args.memory.now) c.in-ok-check-cover.ensures,
+  cover_start (g.B.Bitmap.means c.args.bitmap.now) (length c.args.memory.now) c.in_ok-check_cover.ensures,
   sym (c.get.ensures ∙ c.page_size.ensures),
 )
 
-pub returns-in-err-length : goal.returns-in-err-length
-returns-in-err-length g c =
+pub returns-in_err-length : goal.returns-in_err-length
+returns-in_err-length g c =
     let b = g.B.Bitmap.means c.args.bitmap.now in
     let memory = c.args.memory.now in
-    let p = err_from_is_err_and c.from-residual-in-err-length.result c.from-residual-in-err-length.ensures.1 in
+    let p = err_from_is_err_and c.from_residual-in_err-length.result c.from_residual-in_err-length.ensures.1 in
     let all = owed_is b memory c.get.result c.measure-carried.result.pages c.measure-carried.result.bytes (c.get.ensures ∙ c.page_size.ensures) c.measure-carried.ensures.pages c.measure-carried.ensures.bytes in
-    let e = taken_short b memory (length c.args.buf.now) (24 + 8 * c.measure-carried.result.pages + c.measure-carried.result.bytes) all c.in-ok-check-cover.ensures _ c.in-err-length.ensures in
+    let e = taken_short b memory (length c.args.buf.now) (24 + 8 * c.measure-carried.result.pages + c.measure-carried.result.bytes) all c.in_ok-check_cover.ensures _ c.in_err-length.ensures in
     rw (p.1, p.2, e) (record { answer = refl; buffer = refl; means = refl; lent = refl })
 
-pub lay-parcel-requires : goal.lay-parcel-requires
-lay-parcel-requires g c =
+pub lay_parcel-requires : goal.lay_parcel-requires
+lay_parcel-requires g c =
     let b = g.B.Bitmap.means c.args.bitmap.now in
     let memory = c.args.memory.now in
     let page = c.get.ensures ∙ c.page_size.ensures in
     let all = owed_is b memory c.get.result c.measure-carried.result.pages c.measure-carried.result.bytes page c.measure-carried.ensures.pages c.measure-carried.ensures.bytes in
     record {
-      start = (cover_start b (length memory) c.in-ok-check-cover.ensures, sym page);
+      start = (cover_start b (length memory) c.in_ok-check_cover.ensures, sym page);
       total = refl;
       count = c.measure-carried.ensures.pages ∙ ap (λ p. length (dirty_below (dirty b) (pages (length memory) p))) page;
-      room = rw page (omega (arith, all, (room_found _ _ _ c.in-ok-length.ensures).1));
+      room = rw page (omega (arith, all, (room_found _ _ _ c.in_ok-length.ensures).1));
     }
 
 pub returns : goal.returns
@@ -46,15 +46,15 @@ returns g c =
     let b = g.B.Bitmap.means c.args.bitmap.now in
     let memory = c.args.memory.now in
     let page = c.get.ensures ∙ c.page_size.ensures in
-    let covers = c.in-ok-check-cover.ensures in
+    let covers = c.in_ok-check_cover.ensures in
     let all = owed_is b memory c.get.result c.measure-carried.result.pages c.measure-carried.result.bytes page c.measure-carried.ensures.pages c.measure-carried.ensures.bytes in
-    let e = taken_gives b memory (length c.args.buf.now) (24 + 8 * c.measure-carried.result.pages + c.measure-carried.result.bytes) all covers _ c.in-ok-length.ensures in
-    let long : c.in-ok-length.length ≡ length (due b memory) = (room_found _ _ _ c.in-ok-length.ensures).0 ∙ all in
+    let e = taken_gives b memory (length c.args.buf.now) (24 + 8 * c.measure-carried.result.pages + c.measure-carried.result.bytes) all covers _ c.in_ok-length.ensures in
+    let long : c.in_ok-length.length ≡ length (due b memory) = (room_found _ _ _ c.in_ok-length.ensures).0 ∙ all in
     let count : c.measure-carried.result.pages ≡ length (dirty-pages b memory) = c.measure-carried.ensures.pages ∙ ap (λ p. length (dirty_below (dirty b) (pages (length memory) p))) page in
     let clean = swept-cleaned b memory (g.B.Bitmap.paged c.args.bitmap.now) (cover_start b (length memory) covers) (omega arith) (cover_enough b (length memory) covers) in
     rw e (record {
       answer = ap₂ (λ n k. gives (n, k)) long count;
-      buffer = c.lay-parcel.ensures ∙ ap (λ p. overlaid c.args.buf.now 0 (parcel p memory (dirty-pages b memory))) page;
-      means = c.reset-addr-range.ensures.cleans ∙ clean;
-      lent = c.reset-addr-range.ensures.lent;
+      buffer = c.lay_parcel.ensures ∙ ap (λ p. overlaid c.args.buf.now 0 (parcel p memory (dirty-pages b memory))) page;
+      means = c.reset_addr_range.ensures.cleans ∙ clean;
+      lent = c.reset_addr_range.ensures.lent;
     })

@@ -21,9 +21,9 @@ told_more ss i d es fs e less h put number text =
 
 pub loop-step-preserved : goal.loop-step-preserved
 loop-step-preserved c =
-    let line = c.in-ok-entry-of.ensures.line in
+    let line = c.in_ok-entry_of.ensures.line in
     let item = c.step-item.is in
-    told_more c.args.steps.now c.loop-step.step-index c.step-item.result (vec_items c.loop-step.entries) _ c.in-ok-entry-of.field-0 c.loop-step-test.true c.loop-step.invariant c.in-ok-push.ensures.items (line.0 ∙ ap (λ s. s.number) item) (line.1 ∙ ap (λ s. string_bytes s.text) item)
+    told_more c.args.steps.now c.loop-step.step-index c.step-item.result (vec_items c.loop-step.entries) _ c.in_ok-entry_of.field-0 c.loop-step-test.true c.loop-step.invariant c.in_ok-push.ensures.items (line.0 ∙ ap (λ s. s.number) item) (line.1 ∙ ap (λ s. string_bytes s.text) item)
 
 pub returns : goal.returns
 returns c = c.loop-step.invariant ∙ ap listed (take_all c.loop-step.step-index c.args.steps.now c.loop-step-test.false)

@@ -17,7 +17,7 @@ listed_more ls i d ss ts s less h put number text =
     ap listed put ∙ listed_push ss s ∙ ap (λ ks. ks ++ (entry ∷ [])) h ∙ ap (λ k. numbered (take i ls) ++ (k ∷ [])) same ∙ sym next
 
 pub loop-line-preserved : goal.loop-line-preserved
-loop-line-preserved c = listed_more c.args.lines.now c.loop-line.line-index _ (vec_items c.loop-line.steps) _ c.in-ok-step-of.field-0 c.loop-line-test.true c.loop-line.invariant c.in-ok-push.ensures.items c.in-ok-step-of.ensures.0 c.in-ok-step-of.ensures.1
+loop-line-preserved c = listed_more c.args.lines.now c.loop-line.line-index _ (vec_items c.loop-line.steps) _ c.in_ok-step_of.field-0 c.loop-line-test.true c.loop-line.invariant c.in_ok-push.ensures.items c.in_ok-step_of.ensures.0 c.in_ok-step_of.ensures.1
 
 pub returns : goal.returns
 returns c = c.loop-line.invariant ∙ ap numbered (take_all c.loop-line.line-index c.args.lines.now c.loop-line-test.false)

@@ -5,6 +5,6 @@ use Rattle.bitmap.proofs.slice.BaseSliceBitmap.mark_dirty.Goals as goal
 
 pub returns : goal.returns
 returns g c = record {
-  marks = ap (λ m. sliced m c.args.self.now.base_offset) c.mark-dirty.ensures.marks ∙ assigned-sliced true _ c.args.self.now.base_offset c.args.offset c.args.len;
-  lent = c.mark-dirty.ensures.lent;
+  marks = ap (λ m. sliced m c.args.self.now.base_offset) c.mark_dirty.ensures.marks ∙ assigned-sliced true _ c.args.self.now.base_offset c.args.offset c.args.len;
+  lent = c.mark_dirty.ensures.lent;
 }

@@ -5,6 +5,6 @@ use Rattle.bitmap.proofs.slice.BaseSliceCleanBitmap.reset_addr_range.Goals as go
 
 pub returns : goal.returns
 returns g c = record {
-  cleans = ap (λ m. sliced m c.args.self.now.base_offset) c.reset-addr-range.ensures.cleans ∙ assigned-sliced false _ c.args.self.now.base_offset c.args.start-addr c.args.len;
-  lent = c.reset-addr-range.ensures.lent;
+  cleans = ap (λ m. sliced m c.args.self.now.base_offset) c.reset_addr_range.ensures.cleans ∙ assigned-sliced false _ c.args.self.now.base_offset c.args.start_addr c.args.len;
+  lent = c.reset_addr_range.ensures.lent;
 }

@@ -6,6 +6,6 @@ pub returns-in-len2 : goal.returns-in-len2
 returns-in-len2 c =
     let is : length c.args.«data».now ≡ 2 = search rules in
     record {
-      value = made_whole 2 c.args.«data».now c.from-le-bytes.result is (omega arith);
+      value = made_whole 2 c.args.«data».now c.from_le_bytes.result is (omega arith);
       holds = omega arith;
     }

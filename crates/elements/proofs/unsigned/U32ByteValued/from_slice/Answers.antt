@@ -6,6 +6,6 @@ pub returns-in-len4 : goal.returns-in-len4
 returns-in-len4 c =
     let is : length c.args.«data».now ≡ 4 = search rules in
     record {
-      value = made_whole 4 c.args.«data».now c.from-le-bytes.result is (omega arith);
+      value = made_whole 4 c.args.«data».now c.from_le_bytes.result is (omega arith);
       holds = omega arith;
     }

@@ -6,6 +6,6 @@ pub returns-in-len8 : goal.returns-in-len8
 returns-in-len8 c =
     let is : length c.args.«data».now ≡ 8 = search rules in
     record {
-      value = made_whole 8 c.args.«data».now c.from-le-bytes.result is (omega arith);
+      value = made_whole 8 c.args.«data».now c.from_le_bytes.result is (omega arith);
       holds = omega arith;
     }

@@ -6,6 +6,6 @@ pub returns-in-len1 : goal.returns-in-len1
 returns-in-len1 c =
     let is : length c.args.«data».now ≡ 1 = search rules in
     record {
-      value = made_whole 1 c.args.«data».now c.from-le-bytes.result is (omega arith);
+      value = made_whole 1 c.args.«data».now c.from_le_bytes.result is (omega arith);
       holds = omega arith;
     }

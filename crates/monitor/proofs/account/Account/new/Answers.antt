@@ -10,13 +10,13 @@ use Rattle.monitor.proofs.account.Account.new.Goals.{In-ok-entries}
 starts : (c : In-ok-entries) → tracked c.new-map.result ≡ clean-map c.args.trace.now.memory
 starts c =
     let m = c.args.trace.now.memory in
-    let room : ceiling m.byte_size m.page_size.value ≤ 64 * length c.as-mut-slice.result.now = omega (arith, c.as-mut-slice.ensures.len, c.in-ok-words.ensures.len, c.div-ceil.ensures, c.pages.ensures) in
+    let room : ceiling m.byte_size m.page_size.value ≤ 64 * length c.as_mut_slice.result.now = omega (arith, c.as_mut_slice.ensures.len, c.in_ok-words.ensures.len, c.div_ceil.ensures, c.pages.ensures) in
     c.new-map.ensures.means ∙ map_start m (omega (arith, m.logged)) _ room
 
-ends : (c : In-ok-entries) → tracked c.mark-all.new.map ≡ after (clean-map c.args.trace.now.memory) (vec_items c.args.trace.now.accesses)
+ends : (c : In-ok-entries) → tracked c.mark_all.new.map ≡ after (clean-map c.args.trace.now.memory) (vec_items c.args.trace.now.accesses)
 ends c =
     let m = c.args.trace.now.memory in
-    c.in-ok-entries.ensures.means ∙ ap (λ b. after b c.as-slice.result.now) (starts c) ∙ ap (after (clean-map m)) c.as-slice.ensures.value
+    c.in_ok-entries.ensures.means ∙ ap (λ b. after b c.as_slice.result.now) (starts c) ∙ ap (after (clean-map m)) c.as_slice.ensures.value
 
 pub new-summary-requires : goal.new-summary-requires
 new-summary-requires c =
@@ -31,8 +31,8 @@ returns c =
     let m = c.args.trace.now.memory in
     record {
       memory = refl;
-      entries = c.in-ok-entries.ensures.turns ∙ ap (λ b. turns b c.as-slice.result.now) (starts at) ∙ ap (turns (clean-map m)) c.as-slice.ensures.value;
-      pages = let P : Meaning → Type 0 = λ b. Shows b (vec_items c.in-ok-pages.pages) in subst P (ends at) c.in-ok-pages.ensures;
-      log = c.in-ok-log.ensures ∙ ap (after (clean_log m)) c.as-slice-2.ensures.value;
+      entries = c.in_ok-entries.ensures.turns ∙ ap (λ b. turns b c.as_slice.result.now) (starts at) ∙ ap (turns (clean-map m)) c.as_slice.ensures.value;
+      pages = let P : Meaning → Type 0 = λ b. Shows b (vec_items c.in_ok-pages.pages) in subst P (ends at) c.in_ok-pages.ensures;
+      log = c.in_ok-log.ensures ∙ ap (after (clean_log m)) c.as_slice-2.ensures.value;
       summary = let P : Meaning → Type 0 = λ b. Sums b c.new-summary.result in subst P (ends at) c.new-summary.ensures;
     }

@@ -16,7 +16,7 @@ numbers-are line a b c d p q h =
 
 pub returns-in-Ok : goal.returns-in-Ok
 returns-in-Ok c =
-    let read = c.in-ok-byte-size in
+    let read = c.in_ok-byte_size in
     let made = c.in-Ok.ensures.made in
     let page = ap (λ s. s.value) made.1 ∙ same_size read.page_size c.in-Some.page_size.value c.in-Some.ensures in
     numbers-are _ read.byte_size read.page_size _ _ made.0 page read.ensures

@@ -3,8 +3,8 @@ use Rattle.text.proofs.page_map.PageMap.new.Goals as goal
 
 pub loop-page-preserved : goal.loop-page-preserved
 loop-page-preserved c =
-    let put = c.in-ok-push.ensures in
+    let put = c.in_ok-push.ensures in
     let new = vec_items c.push.new.self in (
       omega (arith, put.len),
-      below_more _ _ (λ k h. put.by_index.0 k false (omega arith) ∙ c.loop-page.invariant.1 k h) (ap (λ i. get_or new i false) (sym c.loop-page.invariant.0) ∙ put.by_index.1 false refl ∙ c.is-bit-set.ensures),
+      below_more _ _ (λ k h. put.by_index.0 k false (omega arith) ∙ c.loop-page.invariant.1 k h) (ap (λ i. get_or new i false) (sym c.loop-page.invariant.0) ∙ put.by_index.1 false refl ∙ c.is_bit_set.ensures),
     )

@@ -12,9 +12,9 @@ skips-by l t b cut e =
     let P : List ℕ → Type 0 = λ s. (rest : List ℕ) × EmptyOrStartsWithPassing is_not_whitespace s rest in
     (cut.0, cut.2, subst P cut.1 cut.3, e ∙ ap (λ s. eqb (length s) 0 || eqb (get_or s 0 0) 35) cut.1)
 
-pub returns-else-is-empty : goal.returns-else-is-empty
-returns-else-is-empty c =
-    let text = c.trim-start-text.result.now in
-    let mark = c.starts-with.result in
-    let same = same_from_decides mark (eqb (get_or text 0 0) 35) (starts_char 35 text mark c.starts-with.ensures.cases (omega arith) (omega arith)) (Decides-eqb (get_or text 0 0) 35) in
-    skips-by _ text mark c.trim-start-text.ensures.value (same ∙ ap (λ b. b || eqb (get_or text 0 0) 35) c.if-is-empty.ensures)
+pub returns-else-is_empty : goal.returns-else-is_empty
+returns-else-is_empty c =
+    let text = c.trim_start-text.result.now in
+    let mark = c.starts_with.result in
+    let same = same_from_decides mark (eqb (get_or text 0 0) 35) (starts_char 35 text mark c.starts_with.ensures.cases (omega arith) (omega arith)) (Decides-eqb (get_or text 0 0) 35) in
+    skips-by _ text mark c.trim_start-text.ensures.value (same ∙ ap (λ b. b || eqb (get_or text 0 0) 35) c.if-is_empty.ensures)

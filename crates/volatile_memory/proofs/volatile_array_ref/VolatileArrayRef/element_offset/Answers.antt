@@ -6,13 +6,13 @@ use Rattle.volatile_memory.proofs.volatile_array_ref.VolatileArrayRef.element_of
 pub overflow-mul-result : goal.overflow-mul-result
 overflow-mul-result g c =
     let ends = c.args.self.now.slice.ends in
-    omega (arith, element_within c.args.self.now.slice.size g.T.ByteValued.size c.size-of.result c.args.index g.met.T.ByteValued.sized.0 c.size-of.ensures (omega arith))
+    omega (arith, element_within c.args.self.now.slice.size g.T.ByteValued.size c.size_of.result c.args.index g.met.T.ByteValued.sized.0 c.size_of.ensures (omega arith))
 
 pub returns : goal.returns
 returns g c =
     let size = g.T.ByteValued.size in
-    let inside = element_within c.args.self.now.slice.size size c.size-of.result c.args.index g.met.T.ByteValued.sized.0 c.size-of.ensures (omega arith) in
+    let inside = element_within c.args.self.now.slice.size size c.size_of.result c.args.index g.met.T.ByteValued.sized.0 c.size_of.ensures (omega arith) in
     record {
       answer = grind (arith, nat_tests);
-      made = (ap (λ z. c.args.index * z) c.size-of.ensures, omega arith);
+      made = (ap (λ z. c.args.index * z) c.size_of.ensures, omega arith);
     }

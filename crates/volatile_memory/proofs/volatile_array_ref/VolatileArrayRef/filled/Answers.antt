@@ -4,7 +4,7 @@ use Rattle.volatile_memory.proofs.volatile_array_ref.VolatileArrayRef.filled.Goa
 pub overflow-mul-len : goal.overflow-mul-len
 overflow-mul-len g c =
     let ends = c.args.self.now.slice.ends in
-    rw (c.len.ensures, c.size-of.ensures) (omega (arith, div-mul-le_self c.args.self.now.slice.size g.T.ByteValued.size))
+    rw (c.len.ensures, c.size_of.ensures) (omega (arith, div-mul-le_self c.args.self.now.slice.size g.T.ByteValued.size))
 
 pub part-requires : goal.part-requires
-part-requires g c = rw (c.len.ensures, c.size-of.ensures) (omega (arith, div-mul-le_self c.args.self.now.slice.size g.T.ByteValued.size))
+part-requires g c = rw (c.len.ensures, c.size_of.ensures) (omega (arith, div-mul-le_self c.args.self.now.slice.size g.T.ByteValued.size))

@@ -5,7 +5,7 @@ use Rattle.volatile_memory.proofs.volatile_array_ref.VolatileArrayRef.ref_at.Goa
 pub overflow-mul-index : goal.overflow-mul-index
 overflow-mul-index g c =
     let ends = c.args.self.now.slice.ends in
-    omega (arith, element_within c.args.self.now.slice.size g.T.ByteValued.size c.size-of-size.result c.args.index g.met.T.ByteValued.sized.0 c.size-of-size.ensures (omega arith))
+    omega (arith, element_within c.args.self.now.slice.size g.T.ByteValued.size c.size_of-size.result c.args.index g.met.T.ByteValued.sized.0 c.size_of-size.ensures (omega arith))
 
 pub part-requires : goal.part-requires
-part-requires g c = element_within c.args.self.now.slice.size g.T.ByteValued.size c.size-of-size.result c.args.index g.met.T.ByteValued.sized.0 c.size-of-size.ensures (omega arith)
+part-requires g c = element_within c.args.self.now.slice.size g.T.ByteValued.size c.size_of-size.result c.args.index g.met.T.ByteValued.sized.0 c.size_of-size.ensures (omega arith)

@@ -4,4 +4,4 @@ use Rattle.volatile_memory.proofs.volatile_slice.VolatileSlice.element.Goals as 
 
 pub returns : goal.returns
 returns g c =
-    loaded g.T.ByteValued.size c.size-of.result g.T.ByteValued.value c.args.memory.now (c.args.self.now.start + c.args.offset) _ c.size-of.ensures c.in-Some.ensures.value
+    loaded g.T.ByteValued.size c.size_of.result g.T.ByteValued.value c.args.memory.now (c.args.self.now.start + c.args.offset) _ c.size_of.ensures c.in-Some.ensures.value

@@ -7,6 +7,6 @@ returns g c =
     let at = c.args.self.now.start + c.args.offset in
     let k = at + length c.args.bytes.now - at in
     record {
-      did = (rw c.copy-from-slice.ensures.after (overlaid_put c.args.memory.now c.args.bytes.now at k (omega arith)), c.mark-dirty.ensures.marks);
-      lent = c.mark-dirty.ensures.lent;
+      did = (rw c.copy_from_slice.ensures.after (overlaid_put c.args.memory.now c.args.bytes.now at k (omega arith)), c.mark_dirty.ensures.marks);
+      lent = c.mark_dirty.ensures.lent;
     }

@@ -6,11 +6,11 @@ use Rattle.volatile_memory.proofs.volatile_slice.VolatileSlice.lay_element.Goals
 pub returns : goal.returns
 returns g c =
     let at = c.args.self.now.start + c.args.offset in
-    let size = c.size-of-size.result in
+    let size = c.size_of-size.result in
     let bytes = g.T.ByteValued.bytes c.args.value in
-    let long : length bytes ≡ size = (g.met.T.ByteValued.exact c.args.value).0 ∙ sym c.size-of-size.ensures in
-    let whole = c.write-to.ensures.after ∙ laid-whole bytes _ (simp (length-take, length-drop) (omega arith)) in
+    let long : length bytes ≡ size = (g.met.T.ByteValued.exact c.args.value).0 ∙ sym c.size_of-size.ensures in
+    let whole = c.write_to.ensures.after ∙ laid-whole bytes _ (simp (length-take, length-drop) (omega arith)) in
     record {
-      did = (rw whole (overlaid_put c.args.memory.now bytes at (at + size - at) (omega arith)), rw long c.mark-dirty.ensures.marks);
-      lent = c.mark-dirty.ensures.lent;
+      did = (rw whole (overlaid_put c.args.memory.now bytes at (at + size - at) (omega arith)), rw long c.mark_dirty.ensures.marks);
+      lent = c.mark_dirty.ensures.lent;
     }

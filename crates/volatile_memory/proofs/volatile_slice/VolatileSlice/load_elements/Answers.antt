@@ -18,7 +18,7 @@ loop-value-preserved g c =
     let at : c.loop-value.offset ≡ i * k.size = c.loop-value.invariant.1 in
     let item : c.element.result ≡ k.value (part c.args.memory.now (c.args.self.now.start + i * k.size) k.size) = rw at at c.element.ensures in (
       simp length-set (omega arith),
-      omega (arith, more_elements i k.size c.size-of-offset.result c.size-of-offset.ensures),
+      omega (arith, more_elements i k.size c.size_of-offset.result c.size_of-offset.ensures),
       take_more_set c.loop-value.values i c.element.result (omega arith) ∙ rw (one, c.loop-value.invariant.2, item),
     )
 

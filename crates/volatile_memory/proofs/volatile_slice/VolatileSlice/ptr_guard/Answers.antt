@@ -10,5 +10,5 @@ pub returns : goal.returns
 returns c =
     let v = c.args.self.now in
     let m = c.args.memory in
-    let held = found_in_memory (span v) (length m.now) c.in-ok-check-memory.ensures in
+    let held = found_in_memory (span v) (length m.now) c.in_ok-check_memory.ensures in
     ap (λ (bs : List ℕ). gives (bs, (m.ref_ptr.0, v.start + m.ref_ptr.1))) (part_of m.now v.start v.size) ∙ sym (cond-false _ _ _ (le-ltb (length m.now) (v.start + v.size) held))

@@ -6,13 +6,13 @@ use Rattle.volatile_memory.proofs.CallLaws.{did_nothing}
 use Rattle.volatile_memory.proofs.ElementBytes.{store_refused, store-lays}
 use Rattle.volatile_memory.proofs.volatile_slice.VolatileSlice.store.Goals as goal
 
-pub returns-in-err-check-atomic : goal.returns-in-err-check-atomic
+pub returns-in_err-check_atomic : goal.returns-in_err-check_atomic
 unfolding store
-returns-in-err-check-atomic g c =
-    let p = err_from_is_err_and c.from-residual.result c.from-residual.ensures.1 in
+returns-in_err-check_atomic g c =
+    let p = err_from_is_err_and c.from_residual.result c.from_residual.ensures.1 in
     let bytes = g.T.ByteValued.bytes c.args.value in
     let v = span c.args.self.now in
-    let e = store_refused v c.args.addr bytes _ _ _ (ap (λ z. atomic_at v (length c.args.memory.now) z c.args.addr) ((g.met.T.ByteValued.exact c.args.value).0 ∙ sym c.alignment.ensures)) c.in-err-check-atomic.ensures in
+    let e = store_refused v c.args.addr bytes _ _ _ (ap (λ z. atomic_at v (length c.args.memory.now) z c.args.addr) ((g.met.T.ByteValued.exact c.args.value).0 ∙ sym c.alignment.ensures)) c.in_err-check_atomic.ensures in
     rw (p.1, p.2, e) (record { answer = refl; did = did_nothing _ _; lent = refl })
 
 pub returns : goal.returns
@@ -20,5 +20,5 @@ unfolding store
 returns g c =
     let bytes = g.T.ByteValued.bytes c.args.value in
     let v = span c.args.self.now in
-    let e = store-lays v c.args.addr bytes _ _ (ap (λ z. atomic_at v (length c.args.memory.now) z c.args.addr) ((g.met.T.ByteValued.exact c.args.value).0 ∙ sym c.alignment.ensures)) c.in-ok-check-atomic.ensures in
-    rw e (record { answer = refl; did = c.lay-element.ensures.did; lent = c.lay-element.ensures.lent })
+    let e = store-lays v c.args.addr bytes _ _ (ap (λ z. atomic_at v (length c.args.memory.now) z c.args.addr) ((g.met.T.ByteValued.exact c.args.value).0 ∙ sym c.alignment.ensures)) c.in_ok-check_atomic.ensures in
+    rw e (record { answer = refl; did = c.lay_element.ensures.did; lent = c.lay_element.ensures.lent })

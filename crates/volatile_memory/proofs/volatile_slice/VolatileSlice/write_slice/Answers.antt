@@ -4,21 +4,21 @@ use Rattle.volatile_memory.specs.Calls.{write_slice}
 use Rattle.volatile_memory.proofs.CallLaws.{whole_refused, whole_short, whole_all}
 use Rattle.volatile_memory.proofs.volatile_slice.VolatileSlice.write_slice.Goals as goal
 
-pub returns-in-err-completed : goal.returns-in-err-completed
+pub returns-in_err-completed : goal.returns-in_err-completed
 unfolding write_slice
-returns-in-err-completed g c =
-    let p = err_from_is_err_and c.from-residual.result c.from-residual.ensures.1 in
-    let was = c.in-err-completed.ensures in
+returns-in_err-completed g c =
+    let p = err_from_is_err_and c.from_residual.result c.from_residual.ensures.1 in
+    let was = c.in_err-completed.ensures in
     rw (p.1, p.2) (record { answer = whole_refused (length c.args.buf.now) _ _ was.answer; did = was.did; lent = was.lent })
 
 pub returns-then-completed-expected : goal.returns-then-completed-expected
 unfolding write_slice
 returns-then-completed-expected g c =
-    let was = c.in-ok-completed.ensures in
+    let was = c.in_ok-completed.ensures in
     record { answer = whole_short (length c.args.buf.now) _ _ was.answer c.if-completed-expected.true; did = was.did; lent = was.lent }
 
 pub returns : goal.returns
 unfolding write_slice
 returns g c =
-    let was = c.in-ok-completed.ensures in
+    let was = c.in_ok-completed.ensures in
     record { answer = whole_all (length c.args.buf.now) _ _ was.answer c.if-completed-expected.false; did = was.did; lent = was.lent }
