@@ -1,7 +1,7 @@
 -- The bits of a number under `|`, `&` and `!`, over every width. Assumes nothing.
-use Rattle.std.proofs.Common.{◌≡◌, ℕ, zero, suc, ◌+◌, ◌-◌, ◌*◌, ◌/◌, ◌%◌, ◌^◌, ◌<◌, ◌≤◌, min, max, Bool, true, false, cond, not, eqb, sym, refl, ap, ◌∙◌, inl, inr, lt_of_lt_of_le, mul_comm, add-mul, pow-suc, zero-mul, arith, pow_mono}
+use Rattle.std.proofs.Common.{◌≡◌, ℕ, zero, suc, ◌+◌, ◌-◌, ◌*◌, ◌/◌, ◌%◌, ◌^◌, ◌<◌, ◌≤◌, min, max, true, false, cond, not, eqb, sym, refl, ap, ◌∙◌, inl, inr, lt_of_lt_of_le, mul_comm, add-mul, pow-suc, zero-mul, arith, pow_mono}
 use native.Mathlib.Nat.{div-eq_of_lt, div_self, div-div-eq-div-mul}
-use lib.Bits.{bit_and, bit_or, and_shr, or_shr, and_mod, or_mod, and_high, and_zero_l, or_zero_l, and_zero_r, or_zero_r}
+use lib.Bits.{bit_and, bit_or, and_shr, or_shr, and_mod, or_mod, and_high, and_zero_l, or_zero_l}
 use Rattle.std.proofs.lemmas.Nat.{pow_pos, pow-add, pow_below, shr_split, shl-shr, div_below, mod_below, div-mul-add}
 use Rattle.std.proofs.lemmas.Bool.{cases_order}
 use Rattle.std.proofs.lemmas.Bool.Decides.{nat_tests}

@@ -1,10 +1,10 @@
 -- What a bitmap over lent words means after some of their bits were assigned.
-use Rattle.std.proofs.Common.{◌≡◌, ℕ, zero, suc, ◌+◌, ◌*◌, ◌/◌, ◌%◌, ◌^◌, ◌<◌, ◌≤◌, min, Bool, true, false, cond, ◌&&◌, eqb, ltb, leb, List, [], ◌∷◌, length, replicate, sym, refl, ap, ◌∙◌, arith, MutBor}
+use Rattle.std.proofs.Common.{◌≡◌, ℕ, zero, suc, ◌*◌, ◌/◌, ◌%◌, ◌^◌, ◌<◌, ◌≤◌, min, Bool, false, cond, ◌&&◌, eqb, ltb, leb, List, [], ◌∷◌, length, replicate, refl, ap, ◌∙◌, arith, MutBor}
 use native.Mathlib.Nat.{zero-div}
 use denote.Ref.{at_last}
 use lib.ListN.{length-replicate}
 use Rattle.std.proofs.lemmas.Bool.Decides.{nat_tests}
-use Rattle.bitmap.specs.Pages.{Meaning, top, wrapped, ceiling, spans, place, with_bits, assigned, assigned_page, page_count, clean}
+use Rattle.bitmap.specs.Pages.{Meaning, top, wrapped, spans, with_bits, assigned, assigned_page, page_count, clean}
 use Rattle.bitmap.specs.Storage.{bit_of, bit_at, stored}
 use Rattle.bitmap.specs.Tracked.{loan, over}
 use Rattle.bitmap.proofs.PageLaws.{assigned_by, assigned_page_by, ceiling_le}

@@ -1,9 +1,9 @@
 -- Page counts, page ranges, and bitmaps that differ in some bits.
-use Rattle.std.proofs.Common.{◌≡◌, ℕ, ◌+◌, ◌-◌, ◌*◌, ◌/◌, ◌%◌, ◌^◌, ◌<◌, ◌≤◌, min, Bool, true, false, cond, ◌&&◌, eqb, ltb, leb, sym, refl, ap, ◌∙◌, inl, inr, add-mul, mul-le-mul_left, div-add-mod', arith}
+use Rattle.std.proofs.Common.{◌≡◌, ℕ, ◌+◌, ◌-◌, ◌*◌, ◌/◌, ◌%◌, ◌^◌, ◌<◌, ◌≤◌, min, Bool, false, cond, ◌&&◌, eqb, ltb, leb, ap, inl, inr, add-mul, mul-le-mul_left, div-add-mod', arith}
 use Rattle.std.proofs.lemmas.Nat.{div-mul-add, mod_below}
-use Rattle.std.proofs.lemmas.Bool.{cases_eq, cases_Bool}
+use Rattle.std.proofs.lemmas.Bool.{cases_eq}
 use Rattle.std.proofs.lemmas.Bool.Decides.{nat_tests}
-use Rattle.bitmap.specs.Pages.{Meaning, top, wrapped, ceiling, spans, reaches, place, with_bits, assigned, assigned_page, sliced, clean}
+use Rattle.bitmap.specs.Pages.{Meaning, top, wrapped, ceiling, spans, reaches, with_bits, assigned, assigned_page, sliced, clean}
 
 -- a quotient rounded up, as `div_ceil` has it
 pub ceiling_is : (n p : ℕ) → 0 < p → n / p + min 1 (n % p) ≡ ceiling n p

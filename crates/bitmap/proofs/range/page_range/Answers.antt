@@ -1,4 +1,4 @@
-use Rattle.std.proofs.Common.{◌≡◌, ◌+◌, ◌-◌, ◌/◌, min, ap, ◌∙◌, arith}
+use Rattle.std.proofs.Common.{◌≡◌, ◌+◌, ◌-◌, ◌/◌, min, ap, arith}
 use Rattle.bitmap.specs.Pages.{top}
 use Rattle.bitmap.proofs.PageLaws.{spans_nothing, spans_range}
 use Rattle.bitmap.proofs.range.page_range.Goals as goal

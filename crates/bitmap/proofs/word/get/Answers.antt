@@ -9,8 +9,8 @@ within g c = word_within g.W.Word.bit g.W.Word.width g.met.W.Word.wide _ _ _ c.w
 pub bounds-words-n : goal.bounds-words-n
 bounds-words-n = within
 
-pub offset-bounds-words-n : goal.offset-bounds-words-n
-offset-bounds-words-n g c = let h = within g c in omega arith
+pub offset_bounds-words-n : goal.offset_bounds-words-n
+offset_bounds-words-n g c = let h = within g c in omega arith
 
 pub returns : goal.returns
 returns g c = c.get.ensures ∙ stored_read g.W.Word.bit g.W.Word.width g.met.W.Word.wide _ _ _ _ c.width_of-width.ensures c.requires c.index-words-n.is

@@ -9,8 +9,8 @@ within g c = word_within g.W.Word.bit g.W.Word.width g.met.W.Word.wide _ _ _ c.w
 pub bounds-words-n : goal.bounds-words-n
 bounds-words-n = within
 
-pub offset-bounds-words-n : goal.offset-bounds-words-n
-offset-bounds-words-n g c = let h = within g c in search rules
+pub offset_bounds-words-n : goal.offset_bounds-words-n
+offset_bounds-words-n g c = let h = within g c in search rules
 
 pub returns : goal.returns
 returns g c = stored-write g.W.Word.bit g.W.Word.width g.met.W.Word.wide _ _ _ _ _ _ c.width_of-width.ensures c.requires (ap (get_or c.args.words.now _) c.index-words-n.is) c.with.ensures

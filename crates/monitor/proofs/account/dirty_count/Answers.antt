@@ -5,8 +5,8 @@ use Rattle.monitor.proofs.Numbers.{how_many_le, how_many_yes, how_many_no}
 use Rattle.monitor.proofs.account.dirty_count.Goals as goal
 use Rattle.monitor.proofs.account.dirty_count.Goals.{then-is_bit_set, else-is_bit_set}
 
-pub overflow-add-dirty : goal.overflow-add-dirty
-overflow-add-dirty c = omega (arith, how_many_le (dirty (tracked c.args.map.now)) c.loop-page.page)
+pub overflow_add-dirty : goal.overflow_add-dirty
+overflow_add-dirty c = omega (arith, how_many_le (dirty (tracked c.args.map.now)) c.loop-page.page)
 
 pub loop-page-preserved : goal.loop-page-preserved
 loop-page-preserved c =

@@ -12,8 +12,8 @@ returns-then-not-is_right c =
     let bytes = sum_of (page_length c.args.layout.page c.args.layout.total) (numbers bs 3 c.args.count) in
     sym (ap (λ m. unless (wrong_from bs m 0 3 c.args.count) (gives bytes)) (sym c.count-pages.ensures) ∙ ap (λ a. unless a (gives bytes)) (c.loop-i.invariant.0 ∙ wrong))
 
-pub overflow-add-bytes : goal.overflow-add-bytes
-overflow-add-bytes c =
+pub overflow_add-bytes : goal.overflow_add-bytes
+overflow_add-bytes c =
     let above = right_above c.number_at-q.result c.loop-i.low c.count-pages.result (sym c.is_right.ensures ∙ c.if-not-is_right.false) in
     omega (arith, next_within c.args.layout.page c.args.layout.total c.loop-i.low c.number_at-q.result c.loop-i.bytes c.loop-i.invariant.2 above)
 

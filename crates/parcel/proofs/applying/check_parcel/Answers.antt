@@ -32,13 +32,13 @@ returns-in_err-bytes c =
     let p = err_from_is_err_and c.from_residual-in_err-bytes.result c.from_residual-in_err-bytes.ensures.1 in
     rw (p.1, p.2) (sym (rules-numbers c.args.total c.args.parcel.now c.number_at.result c.number_at-count.result c.number_at.ensures c.number_at-count.ensures c.in_ok-check_head.ensures _ _ c.in_err-bytes.ensures))
 
-pub overflow-mul-count : goal.overflow-mul-count
-overflow-mul-count c =
+pub overflow_mul-count : goal.overflow_mul-count
+overflow_mul-count c =
     let room = room-from _ c.args.parcel.now c.number_at-count.result c.number_at-count.ensures (headed c.args.total c.args.parcel.now c.in_ok-check_head.ensures) in
     omega arith
 
-pub overflow-add-count : goal.overflow-add-count
-overflow-add-count c =
+pub overflow_add-count : goal.overflow_add-count
+overflow_add-count c =
     let room = room-from _ c.args.parcel.now c.number_at-count.result c.number_at-count.ensures (headed c.args.total c.args.parcel.now c.in_ok-check_head.ensures) in
     omega arith
 

@@ -10,11 +10,11 @@ loop-q-init g c =
     let none = dirty_none (dirty (g.B.Bitmap.means c.args.bitmap.now)) in
     (ap length (sym none), ap (sum_of (page_length c.args.layout.page c.args.layout.total)) (sym none))
 
-pub overflow-add-pages : goal.overflow-add-pages
-overflow-add-pages g c = omega (arith, dirty-count (dirty (g.B.Bitmap.means c.args.bitmap.now)) c.loop-q.q)
+pub overflow_add-pages : goal.overflow_add-pages
+overflow_add-pages g c = omega (arith, dirty-count (dirty (g.B.Bitmap.means c.args.bitmap.now)) c.loop-q.q)
 
-pub overflow-add-bytes : goal.overflow-add-bytes
-overflow-add-bytes g c =
+pub overflow_add-bytes : goal.overflow_add-bytes
+overflow_add-bytes g c =
     omega (arith, bytes_within (dirty (g.B.Bitmap.means c.args.bitmap.now)) c.args.layout.page c.args.layout.total c.loop-q.q)
 
 pub loop-q-preserved : goal.loop-q-preserved

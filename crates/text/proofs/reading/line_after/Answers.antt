@@ -5,8 +5,8 @@ use Rattle.text.proofs.LineBreaks.{breaks_le, break_next, other_next}
 use Rattle.text.proofs.reading.line_after.Goals as goal
 use Rattle.text.proofs.reading.line_after.Goals.{then-byte-eq10, else-byte-eq10}
 
-pub overflow-add-number : goal.overflow-add-number
-overflow-add-number c =
+pub overflow_add-number : goal.overflow_add-number
+overflow_add-number c =
     let few = breaks_le (take c.loop-byte.byte-index c.args.bytes.now) in
     let long : length (take c.loop-byte.byte-index c.args.bytes.now) ≤ c.loop-byte.byte-index = simp length-take (omega arith) in
     omega (arith, c.loop-byte.invariant)

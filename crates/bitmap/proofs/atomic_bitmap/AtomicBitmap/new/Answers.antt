@@ -1,4 +1,4 @@
-use Rattle.std.proofs.Common.{◌≡◌, ℕ, ◌*◌, max, ◌∷◌, length, replicate, sym, ap, ◌∙◌, arith, rules}
+use Rattle.std.proofs.Common.{◌≡◌, max, ◌∷◌, length, replicate, ap, ◌∙◌, arith, rules}
 use Rattle.bitmap.specs.Tracked.{over}
 use Rattle.bitmap.proofs.LentStorage.{over_cleared, loan-kept}
 use Rattle.bitmap.proofs.atomic_bitmap.AtomicBitmap.new.Goals as goal

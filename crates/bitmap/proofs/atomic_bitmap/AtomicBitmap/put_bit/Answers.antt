@@ -1,4 +1,4 @@
-use Rattle.std.proofs.Common.{ℕ, max, ◌∷◌, refl, ap, arith, rules}
+use Rattle.std.proofs.Common.{max, ◌∷◌, refl, ap, arith}
 use Rattle.bitmap.proofs.LentStorage.{over_assigned_page, past_assigned_page, loan-kept}
 use Rattle.bitmap.proofs.atomic_bitmap.AtomicBitmap.put_bit.Goals as goal
 

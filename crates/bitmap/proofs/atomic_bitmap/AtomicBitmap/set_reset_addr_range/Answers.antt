@@ -1,4 +1,4 @@
-use Rattle.std.proofs.Common.{ℕ, max, ◌∷◌, ap, arith}
+use Rattle.std.proofs.Common.{max, ◌∷◌, ap, arith}
 use Rattle.bitmap.proofs.LentStorage.{over-assigned, loan-kept}
 use Rattle.bitmap.proofs.atomic_bitmap.AtomicBitmap.set_reset_addr_range.Goals as goal
 

@@ -2,8 +2,8 @@ use Rattle.std.proofs.Common.{refl, arith}
 use Rattle.parcel.proofs.PagePlaces.{page_begins}
 use Rattle.parcel.proofs.layout.Layout.start.Goals as goal
 
-pub overflow-mul-result : goal.overflow-mul-result
-overflow-mul-result c = omega (arith, page_begins c.args.self.total c.args.self.page c.args.q c.args.self.paged c.requires)
+pub overflow_mul-result : goal.overflow_mul-result
+overflow_mul-result c = omega (arith, page_begins c.args.self.total c.args.self.page c.args.q c.args.self.paged c.requires)
 
 pub returns : goal.returns
 returns c = record {

@@ -3,8 +3,8 @@ use Rattle.std.proofs.lemmas.Bool.Decides.{nat_tests}
 use Rattle.volatile_memory.proofs.Elements.{element_within}
 use Rattle.volatile_memory.proofs.volatile_array_ref.VolatileArrayRef.element_offset.Goals as goal
 
-pub overflow-mul-result : goal.overflow-mul-result
-overflow-mul-result g c =
+pub overflow_mul-result : goal.overflow_mul-result
+overflow_mul-result g c =
     let ends = c.args.self.now.slice.ends in
     omega (arith, element_within c.args.self.now.slice.size g.T.ByteValued.size c.size_of.result c.args.index g.met.T.ByteValued.sized.0 c.size_of.ensures (omega arith))
 

@@ -14,8 +14,8 @@ returns-in_err-check_memory g c =
     let e = copy_from_refused (span c.args.self.now) (length c.args.memory.now) g.T.ByteValued.size (map g.T.ByteValued.bytes c.args.buf.now) _ c.in_err-check_memory.ensures in
     rw (p.1, p.2, e) (record { answer = refl; did = did_nothing _ _; lent = refl })
 
-pub overflow-mul-k : goal.overflow-mul-k
-overflow-mul-k g c =
+pub overflow_mul-k : goal.overflow_mul-k
+overflow_mul-k g c =
     let ends = c.args.self.now.ends in
     rw c.size_of-size.ensures (omega (arith, counted_within c.args.self.now.size g.T.ByteValued.size c.size_of-size.result c.min-k.result (length c.args.buf.now) c.size_of-size.ensures c.min-k.ensures))
 

@@ -9,8 +9,8 @@ use Rattle.volatile_memory.proofs.volatile_slice.VolatileSlice.lay_elements.Goal
 mins : (i n : ℕ) → i < n → min i n ≡ i
 mins i n h = omega arith
 
-pub overflow-add-end : goal.overflow-add-end
-overflow-add-end g c =
+pub overflow_add-end : goal.overflow_add-end
+overflow_add-end g c =
     let ends = c.args.self.now.ends in
     omega (arith, next_element c.loop-value.value-index (length c.args.values.now) g.T.ByteValued.size c.loop-value-test.true)
 
