@@ -4,8 +4,8 @@ ghost use Rattle.volatile_memory.specs.Memory.{part, overlaid};
 
 // Moves `count` bytes, as they stood before, also where the two places overlap.
 pub(crate) fn move_bytes(memory: &mut [u8], from: usize, to: usize, count: usize)
-    requires count_in_bounds { from + count ≤ length memory.old }
-    requires count_in_bounds_2 { to + count ≤ length memory.old }
+    requires source_inside { from + count ≤ length memory.old }
+    requires target_inside { to + count ≤ length memory.old }
     ensures { memory.new ≡ overlaid memory.old to (part memory.old from count) }
 {
     if to <= from {
@@ -17,8 +17,8 @@ pub(crate) fn move_bytes(memory: &mut [u8], from: usize, to: usize, count: usize
 
 // From the first byte to the last.
 fn move_down(memory: &mut [u8], from: usize, to: usize, count: usize)
-    requires count_in_bounds { from + count ≤ length memory.old }
-    requires to_le_from { to ≤ from }
+    requires source_inside { from + count ≤ length memory.old }
+    requires downward { to ≤ from }
     ensures { memory.new ≡ overlaid memory.old to (part memory.old from count) }
 {
     for i in 0..count {
@@ -28,8 +28,8 @@ fn move_down(memory: &mut [u8], from: usize, to: usize, count: usize)
 
 // From the last byte to the first.
 fn move_up(memory: &mut [u8], from: usize, to: usize, count: usize)
-    requires count_in_bounds { to + count ≤ length memory.old }
-    requires from_lt_to { from < to }
+    requires target_inside { to + count ≤ length memory.old }
+    requires upward { from < to }
     ensures { memory.new ≡ overlaid memory.old to (part memory.old from count) }
 {
     for i in (0..count).rev() {

@@ -32,8 +32,8 @@ impl VolatileSlice {
         offset: usize,
         bytes: &[u8],
     )
-        requires bytes_bound { offset + length bytes.now ≤ self.now.size }
-        requires size_in_bounds { self.now.start + self.now.size ≤ length memory.old }
+        requires in_view { offset + length bytes.now ≤ self.now.size }
+        requires in_memory { self.now.start + self.now.size ≤ length memory.old }
         ensures did { Did (lays (span self.now) offset bytes.now (gives 0)) memory.old memory.new (B.Bitmap.means bitmap.old) (B.Bitmap.means bitmap.new) }
         ensures lent { B.Bitmap.lent bitmap.new ≡ B.Bitmap.lent bitmap.old }
     {

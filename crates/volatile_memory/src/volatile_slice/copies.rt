@@ -25,8 +25,8 @@ impl VolatileSlice {
 
     // Lays the bytes of elements one after another, where they lie within.
     fn lay_elements<T: ByteValued>(&self, memory: &mut [u8], values: &[T])
-        requires values_len_bound { length values.now * T.ByteValued.size ≤ self.now.size }
-        requires size_in_bounds { self.now.start + self.now.size ≤ length memory.old }
+        requires in_view { length values.now * T.ByteValued.size ≤ self.now.size }
+        requires in_memory { self.now.start + self.now.size ≤ length memory.old }
         ensures { memory.new ≡ overlaid memory.old self.now.start (joined (map T.ByteValued.bytes values.now)) }
     {
         let mut at = self.start;
@@ -69,8 +69,8 @@ impl VolatileSlice {
 
     // Loads elements one after another, where they lie within.
     fn load_elements<T: ByteValued>(&self, memory: &[u8], values: &mut [T])
-        requires values_len_bound { length values.old * T.ByteValued.size ≤ self.now.size }
-        requires size_in_bounds { self.now.start + self.now.size ≤ length memory.now }
+        requires in_view { length values.old * T.ByteValued.size ≤ self.now.size }
+        requires in_memory { self.now.start + self.now.size ≤ length memory.now }
         ensures { values.new ≡ elements T.ByteValued.value T.ByteValued.size memory.now self.now.start (length values.old) }
     {
         let mut offset = 0;

@@ -23,8 +23,8 @@ impl VolatileSlice {
         offset: usize,
         value: T,
     )
-        requires offset_bound { offset + T.ByteValued.size ≤ self.now.size }
-        requires size_in_bounds { self.now.start + self.now.size ≤ length memory.old }
+        requires in_view { offset + T.ByteValued.size ≤ self.now.size }
+        requires in_memory { self.now.start + self.now.size ≤ length memory.old }
         ensures did { Did (lays (span self.now) offset (T.ByteValued.bytes value) (gives 0)) memory.old memory.new (B.Bitmap.means bitmap.old) (B.Bitmap.means bitmap.new) }
         ensures lent { B.Bitmap.lent bitmap.new ≡ B.Bitmap.lent bitmap.old }
     {
@@ -36,8 +36,8 @@ impl VolatileSlice {
 
     // The element at `offset`, which lies within.
     pub(crate) fn element<T: ByteValued>(&self, memory: &[u8], offset: usize) -> T
-        requires offset_bound { offset + T.ByteValued.size ≤ self.now.size }
-        requires size_in_bounds { self.now.start + self.now.size ≤ length memory.now }
+        requires in_view { offset + T.ByteValued.size ≤ self.now.size }
+        requires in_memory { self.now.start + self.now.size ≤ length memory.now }
         ensures { result ≡ T.ByteValued.value (part memory.now (self.now.start + offset) T.ByteValued.size) }
     {
         let at = self.start + offset;
@@ -66,7 +66,7 @@ impl VolatileSlice {
 
     /// Reads an element at `addr`, refused as `read_slice` is.
     pub fn read_obj<T: ByteValued>(&self, memory: &[u8], addr: usize) -> Result<T, Error>
-        ensures { said (λ x. x) result ≡ loads (whole T-as-ByteValued.size (moves (span self.now) (length memory.now) T-as-ByteValued.size addr)) (T-as-ByteValued.value (part memory.now (self.now.start + addr) T-as-ByteValued.size)) }
+        ensures { said (λ x. x) result ≡ loads (whole T.ByteValued.size (moves (span self.now) (length memory.now) T.ByteValued.size addr)) (T.ByteValued.value (part memory.now (self.now.start + addr) T.ByteValued.size)) }
     {
         let expected = T::size_of();
         let completed = self.movable(memory.len(), expected, addr)?;
@@ -105,8 +105,8 @@ impl VolatileSlice {
         value: T,
         addr: usize,
     ) -> Result<(), Error>
-        ensures answer { said (λ _. 0) result ≡ (store (span self.now) (length memory.old) (T-as-ByteValued.bytes value) addr).answer }
-        ensures did { Did (store (span self.now) (length memory.old) (T-as-ByteValued.bytes value) addr) memory.old memory.new (B.Bitmap.means bitmap.old) (B.Bitmap.means bitmap.new) }
+        ensures answer { said (λ _. 0) result ≡ (store (span self.now) (length memory.old) (T.ByteValued.bytes value) addr).answer }
+        ensures did { Did (store (span self.now) (length memory.old) (T.ByteValued.bytes value) addr) memory.old memory.new (B.Bitmap.means bitmap.old) (B.Bitmap.means bitmap.new) }
         ensures lent { B.Bitmap.lent bitmap.new ≡ B.Bitmap.lent bitmap.old }
     {
         self.check_atomic(memory.len(), T::alignment(), addr)?;
@@ -116,7 +116,7 @@ impl VolatileSlice {
 
     /// Loads an element at `addr` atomically, refused as `store` is.
     pub fn load<T: AtomicAccess>(&self, memory: &[u8], addr: usize) -> Result<T, Error>
-        ensures { said (λ x. x) result ≡ loads (atomic_at (span self.now) (length memory.now) T-as-ByteValued.size addr) (T-as-ByteValued.value (part memory.now (self.now.start + addr) T-as-ByteValued.size)) }
+        ensures { said (λ x. x) result ≡ loads (atomic_at (span self.now) (length memory.now) T.ByteValued.size addr) (T.ByteValued.value (part memory.now (self.now.start + addr) T.ByteValued.size)) }
     {
         self.check_atomic(memory.len(), T::alignment(), addr)?;
         Ok(self.element(memory, addr))

@@ -21,10 +21,10 @@ overflow_mul-k g c =
 
 pub lay_elements-requires : goal.lay_elements-requires
 lay_elements-requires g c =
-    let some : length (take (c.min-k.result - 0) c.args.buf.now) ≡ c.min-k.result = simp length-take (omega arith) in (
-      rw some (counted_within c.args.self.now.size g.T.ByteValued.size c.size_of-size.result c.min-k.result (length c.args.buf.now) c.size_of-size.ensures c.min-k.ensures),
-      found_in_memory (span c.args.self.now) (length c.args.memory.now) c.in_ok-check_memory.ensures,
-    )
+    let some : length (take (c.min-k.result - 0) c.args.buf.now) ≡ c.min-k.result = simp length-take (omega arith) in record {
+      in_view = rw some (counted_within c.args.self.now.size g.T.ByteValued.size c.size_of-size.result c.min-k.result (length c.args.buf.now) c.size_of-size.ensures c.min-k.ensures);
+      in_memory = found_in_memory (span c.args.self.now) (length c.args.memory.now) c.in_ok-check_memory.ensures;
+    }
 
 pub returns : goal.returns
 returns g c =

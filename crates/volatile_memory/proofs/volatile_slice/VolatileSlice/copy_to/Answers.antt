@@ -15,10 +15,10 @@ returns-in_err-check_memory g c =
 
 pub load_elements-requires : goal.load_elements-requires
 load_elements-requires g c =
-    let some : length (take (c.min-k.result - 0) c.args.buf.now) ≡ c.min-k.result = simp length-take (omega arith) in (
-      rw some (counted_within c.args.self.now.size g.T.ByteValued.size c.size_of.result c.min-k.result (length c.args.buf.now) c.size_of.ensures c.min-k.ensures),
-      found_in_memory (span c.args.self.now) (length c.args.memory.now) c.in_ok-check_memory.ensures,
-    )
+    let some : length (take (c.min-k.result - 0) c.args.buf.now) ≡ c.min-k.result = simp length-take (omega arith) in record {
+      in_view = rw some (counted_within c.args.self.now.size g.T.ByteValued.size c.size_of.result c.min-k.result (length c.args.buf.now) c.size_of.ensures c.min-k.ensures);
+      in_memory = found_in_memory (span c.args.self.now) (length c.args.memory.now) c.in_ok-check_memory.ensures;
+    }
 
 pub returns : goal.returns
 returns g c =

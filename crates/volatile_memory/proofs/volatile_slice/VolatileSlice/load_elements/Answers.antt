@@ -5,10 +5,10 @@ use Rattle.volatile_memory.proofs.Elements.{next_element, more_elements}
 use Rattle.volatile_memory.proofs.volatile_slice.VolatileSlice.load_elements.Goals as goal
 
 pub element-requires : goal.element-requires
-element-requires g c = (
-  omega (arith, next_element c.loop-value.value-index (length c.args.values.now) g.T.ByteValued.size c.loop-value-test.true),
-  omega arith,
-)
+element-requires g c = record {
+  in_view = omega (arith, next_element c.loop-value.value-index (length c.args.values.now) g.T.ByteValued.size c.loop-value-test.true);
+  in_memory = omega arith;
+}
 
 pub loop-value-preserved : goal.loop-value-preserved
 loop-value-preserved g c =
