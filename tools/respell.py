@@ -100,7 +100,7 @@ def respelled(name, types, definitions):
     if name in types or (name[0].isupper() and "-" in name and name in definitions):
         return camel(name)
     parts = [p if p[0].isupper() else snake(p) for p in name.split("-")]
-    if len(parts) == 2 and all(p in definitions for p in parts):
+    if len(parts) == 2 and name not in definitions and all(p in definitions for p in parts):
         return "-".join(parts)
     return "_".join(parts)
 
@@ -113,7 +113,7 @@ def main(argv):
     for p in files(root):
         if p.endswith(".antt") and os.sep + "specs" + os.sep in p:
             for line in open(p, encoding="utf-8"):
-                if re.match(r"\s*(abbrev|unfoldable|pub record|pub data)\b", line) and (m := DECLARED.match(code(line))):
+                if re.match(r"\s*(abbrev|unfoldable|pub record|pub data)\b|  pub ", line) and (m := DECLARED.match(code(line))):
                     definitions.add(m[1])
     definitions |= {snake(d.replace("-", "_")) for d in definitions}
     turn = {}

@@ -1,11 +1,11 @@
 -- The parcel of a memory's dirty pages is accepted by a copy as long, and refreshes those pages of it.
-use Rattle.std.proofs.Common.{◌≡◌, ℕ, suc, ◌+◌, ◌-◌, ◌*◌, ◌/◌, ◌^◌, ◌<◌, Bool, cond, List, [], ◌∷◌, length, get_or, drop, refl, ◌∙◌, arith, drop_at}
+use Rattle.std.proofs.Common.{◌≡◌, ℕ, suc, ◌+◌, ◌*◌, ◌/◌, ◌^◌, ◌<◌, Bool, cond, List, [], ◌∷◌, length, get_or, drop, refl, ◌∙◌, arith, drop_at}
 use Rattle.std.proofs.lemmas.Bool.{and_from, lt-ltb, le-leb, cond-true}
 use Rattle.std.proofs.lemmas.Bool.Decides.{nat_tests}
 use Rattle.bitmap.specs.Pages.{ceiling}
 use Rattle.bitmap.proofs.PageLaws.{ceiling_le}
 use Rattle.volatile_memory.specs.Faults.Answer.{gives}
-use Rattle.parcel.specs.Parcels.{dirty_below, pages, words, head, bodies, parcel, number_at, wrong_from, page_length, sum_of, laid-pages, applied}
+use Rattle.parcel.specs.Parcels.{dirty_below, pages, words, head, bodies, parcel, number_at, wrong_from, page_length, sum_of, laid_pages, applied}
 use Rattle.parcel.proofs.WrittenPages.{length-words, length-parcel}
 use Rattle.mirror.proofs.WrittenNumbers.{Small, number_at_words, Written, written, numbers_written}
 use Rattle.mirror.proofs.DirtyList.{Chain, dirty_chain, chain_count, dirty_has}
@@ -19,7 +19,7 @@ wrong_from_passes bs (q ∷ qs) n low i w c =
 -- what makes a parcel apply to a copy of n bytes
 applied_accepts : (copy bs qs body : List ℕ) (p n : ℕ) → 0 < p → n ≡ length copy → number_at bs 0 ≡ p → number_at bs 1 ≡ length qs → number_at bs 2 ≡ n
     → Written bs 3 qs → Chain 0 (ceiling n p) qs → length bs ≡ 24 + 8 * length qs + sum_of (page_length p n) qs → drop (24 + 8 * length qs) bs ≡ body
-    → applied copy bs ≡ gives (laid-pages copy p qs body)
+    → applied copy bs ≡ gives (laid_pages copy p qs body)
 unfolding applied
 applied_accepts copy bs qs body p n h e e0 e1 e2 w c long left =
     let count = chain_count 0 (ceiling n p) qs (omega arith) c in

@@ -7,7 +7,7 @@ use Rattle.volatile_memory.specs.Calls.{write, store}
 use Rattle.parcel.specs.Parcels.{dirty_below, parcel, taken, swept, applied}
 use Rattle.mirror.specs.Runs.{Fresh, Rooted, Legal}
 use Rattle.mirror.specs.Mirror.{Inside}
-use Rattle.mirror.specs.Example.{zeros, view, after-parcel, Stands}
+use Rattle.mirror.specs.Example.{zeros, view, after_parcel, Stands}
 
 fresh : Fresh zeros
 fresh = record { same = refl; clean = λ q. grind (arith, nat_tests); covers = refl; unclaimed = refl }
@@ -15,7 +15,7 @@ fresh = record { same = refl; clean = λ q. grind (arith, nat_tests); covers = r
 rooted : (place size : ℕ) → place + size ≤ 10 → Rooted (view place size)
 rooted place size inside = record { marks = refl; ends = omega arith }
 
-legal : Legal after-parcel
+legal : Legal after_parcel
 legal = (((((fresh, rooted 0 10 (omega arith)), rooted 8 2 (omega arith)), omega arith), omega arith), tt)
 
 -- where nothing is laid, nothing is laid over

@@ -8,10 +8,10 @@ use Rattle.volatile_memory.specs.Faults.Answer.{gives}
 use Rattle.volatile_memory.specs.Memory.{part}
 use Rattle.volatile_memory.specs.Spans.{Span}
 use Rattle.volatile_memory.specs.Calls.{reference_at}
-use Rattle.parcel.specs.Parcels.{pages, dirty-pages, due, taken}
+use Rattle.parcel.specs.Parcels.{pages, dirty_pages, due, taken}
 use Rattle.mirror.specs.Runs.{State, Run, Legal, Fits, state}
 use Rattle.mirror.specs.Runs.Run.{start, then}
-use Rattle.mirror.specs.Mirror.{HasPage, LiesWhole, load_ref, DirtyForAReason, due-after, taken-after, Exact, Law}
+use Rattle.mirror.specs.Mirror.{HasPage, LiesWhole, load_ref, DirtyForAReason, due_after, taken_after, Exact, Law}
 use Rattle.mirror.proofs.BytePlaces.{part_inside, part_outside}
 use Rattle.mirror.proofs.FittingCalls.{lays_inside}
 use Rattle.mirror.proofs.KeptShapes.{kept_shape, kept-length, fits_before}
@@ -83,7 +83,7 @@ loads-part size value v memory es long as_large inside lies =
     let is : part memory v.start size ≡ es = rw (← long) lies in
     rw (reference_given v (length memory) size as_large (omega arith), first, is)
 
-exact_run : (r : Run) → Legal r → Fits (state r).memory (state r).bitmap → (room : ℕ) (bs : List ℕ) → taken-after r room ≡ gives bs → Exact r bs
+exact_run : (r : Run) → Legal r → Fits (state r).memory (state r).bitmap → (room : ℕ) (bs : List ℕ) → taken_after r room ≡ gives bs → Exact r bs
 exact_run r legal fits room bs gave =
     let s = state r in
     let sound = sound_run r legal fits in
@@ -91,7 +91,7 @@ exact_run r legal fits room bs gave =
     let is = taken_is s.bitmap s.memory room bs gave in
     let equal = equal_unclaimed s sound fits in
     record {
-      carried = dirty-pages s.bitmap s.memory;
+      carried = dirty_pages s.bitmap s.memory;
       rising = dirty_rises (dirty s.bitmap) (pages (length s.memory) s.bitmap.page);
       pages = λ q. (
         λ among. let (below, known) = dirty_from_among (dirty s.bitmap) _ q among in (below, (dirty_run r legal fits q below).0 known),
@@ -105,11 +105,11 @@ exact_run r legal fits room bs gave =
           loads-part _ (λ bs. bs) v _ es refl as_large (rw (equal unclaimed) (lies_inside r legal v.start es whole)) (rw (equal unclaimed) (lies_run r legal v.start es whole));
     }
 
-given_run : (r : Run) → Legal r → Fits (state r).memory (state r).bitmap → (room : ℕ) → length (due-after r) ≤ room → taken-after r room ≡ gives (due-after r)
+given_run : (r : Run) → Legal r → Fits (state r).memory (state r).bitmap → (room : ℕ) → length (due_after r) ≤ room → taken_after r room ≡ gives (due_after r)
 unfolding taken
 given_run r legal fits room most =
     let covers = (sound_run r legal fits).covers in
     grind (arith, nat_tests)
 
 pub law_run : (r : Run) → Legal r → Fits (state r).memory (state r).bitmap → Law r
-law_run r legal fits = record { even = (sound_run r legal fits).even; differs = (sound_run r legal fits).explained; dirty-pages = dirty_run r legal fits; exact = exact_run r legal fits; given = given_run r legal fits }
+law_run r legal fits = record { even = (sound_run r legal fits).even; differs = (sound_run r legal fits).explained; dirty_pages = dirty_run r legal fits; exact = exact_run r legal fits; given = given_run r legal fits }

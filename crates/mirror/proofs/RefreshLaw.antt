@@ -9,7 +9,7 @@ use Rattle.volatile_memory.proofs.LaidBytes.{overlaid_nil}
 use Rattle.parcel.specs.Parcels.{taken}
 use Rattle.parcel.specs.Outcomes.{left}
 use Rattle.mirror.specs.Runs.{Run, Legal, Fits, state}
-use Rattle.mirror.specs.Mirror.{Exact, Law, load_ref, due-after, taken-after}
+use Rattle.mirror.specs.Mirror.{Exact, Law, load_ref, due_after, taken_after}
 use Rattle.mirror.specs.Program.{LeadsTo}
 use Rattle.mirror.specs.Refresh.{copy_then, refreshes, Mirrors}
 use Rattle.mirror.proofs.LawOverRuns.{law_run}
@@ -50,10 +50,10 @@ module _ {X : Type 0} (k : Kind X) where
       law : Law r
       law = law_run r legal fits
 
-      given : length (due-after r) ≤ room → taken-after r room ≡ gives (due-after r)
+      given : length (due_after r) ≤ room → taken_after r room ≡ gives (due_after r)
       given most = law.given room most
 
-      exact : length (due-after r) ≤ room → Exact r (due-after r)
+      exact : length (due_after r) ≤ room → Exact r (due_after r)
       exact most = law.exact room _ (given most)
 
   -- so it holds of what a refresh did to a memory, a bitmap and a copy, at any run that led to them

@@ -7,7 +7,7 @@ use Rattle.volatile_memory.specs.Faults.{Fault, Answer}
 use Rattle.volatile_memory.specs.Faults.Answer.{gives, refuses}
 use Rattle.volatile_memory.specs.Spans.{Span}
 use Rattle.volatile_memory.specs.Memory.{overlaid}
-use Rattle.parcel.specs.Parcels.{dirty-pages, taken, applied, unless}
+use Rattle.parcel.specs.Parcels.{dirty_pages, taken, applied, unless}
 use Rattle.parcel.specs.Outcomes.{told, filled, left, accepted, kept}
 use Rattle.mirror.specs.Runs.{Run, Fits}
 use Rattle.mirror.specs.Mirror.{load_ref}
@@ -66,11 +66,11 @@ module _ {X : Type 0} (k : Kind X) where
     owed : (copy' : List ℕ) (a : Answer ((ℕ × ℕ) × X)) → copy' ≡ copy_then b memory (length buf) copy → a ≡ refreshes (load_ref k.size k.value v) b memory (length buf) copy → Owed copy' a
     owed copy' a copy_is answer = record { answer = answer; copy_is = copy_is; law = law_at k v memory b copy (length buf) fits b' copy' a means copy_is answer }
 
-    pub untaken_owed : (f : Fault) → refuses f ≡ told (length (dirty-pages b memory)) (taken b memory (length buf)) → Owed copy (refuses f)
+    pub untaken_owed : (f : Fault) → refuses f ≡ told (length (dirty_pages b memory)) (taken b memory (length buf)) → Owed copy (refuses f)
     untaken_owed f e = let none = told_refused _ f _ e in owed copy (refuses f) (rw none) (rw none)
 
-    module _ (buf' copy' : List ℕ) (n m : ℕ) (e : gives (n, m) ≡ told (length (dirty-pages b memory)) (taken b memory (length buf))) (lies : buf' ≡ filled buf (taken b memory (length buf))) (after : copy' ≡ kept copy (applied copy (take (n - 0) buf'))) where
-      parcel_given : Given (taken b memory (length buf)) (length (dirty-pages b memory)) n m (take (n - 0) buf')
+    module _ (buf' copy' : List ℕ) (n m : ℕ) (e : gives (n, m) ≡ told (length (dirty_pages b memory)) (taken b memory (length buf))) (lies : buf' ≡ filled buf (taken b memory (length buf))) (after : copy' ≡ kept copy (applied copy (take (n - 0) buf'))) where
+      parcel_given : Given (taken b memory (length buf)) (length (dirty_pages b memory)) n m (take (n - 0) buf')
       parcel_given = given _ n m _ buf buf' e lies
 
       pub unapplied_owed : (f : Fault) → refuses f ≡ accepted (applied copy (take (n - 0) buf')) → Owed copy' (refuses f)

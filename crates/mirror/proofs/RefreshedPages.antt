@@ -5,7 +5,7 @@ use Rattle.std.proofs.lemmas.Bool.{cases_order}
 use Rattle.std.proofs.lemmas.Bool.Decides.{nat_tests}
 use Rattle.bitmap.specs.Pages.{ceiling}
 use Rattle.volatile_memory.specs.Memory.{part, overlaid}
-use Rattle.parcel.specs.Parcels.{pages, bodies, page_length, laid-pages}
+use Rattle.parcel.specs.Parcels.{pages, bodies, page_length, laid_pages}
 use Rattle.parcel.proofs.PagePlaces.{page_begins}
 use Rattle.parcel.proofs.WrittenPages.{length_page}
 use Rattle.mirror.proofs.BytePlaces.{get_d_part, length-overlaid, get_d_overlaid}
@@ -32,12 +32,12 @@ with_page p memory copy q = overlaid copy (q * p) (part memory (q * p) p)
 
 -- rising pages of the memory, laid into a copy as long
 abbrev pub refreshed : ℕ → List ℕ → List ℕ → List ℕ → List ℕ
-refreshed p memory copy qs = laid-pages copy p qs (bodies p memory qs)
+refreshed p memory copy qs = laid_pages copy p qs (bodies p memory qs)
 
 laid_first : (p : ℕ) (memory copy : List ℕ) (q : ℕ) (qs : List ℕ) → length memory ≡ length copy → refreshed p memory copy (q ∷ qs) ≡ refreshed p memory (with_page p memory copy q) qs
 laid_first p memory copy q qs even =
     let long : length (part memory (q * p) p) ≡ page_length p (length copy) q = length_page memory p q ∙ ap (λ n. page_length p n q) even in
-    ap₂ (λ now left. laid-pages (overlaid copy (q * p) now) p qs left) (take_at _ _ _ long) (drop_at _ _ _ long)
+    ap₂ (λ now left. laid_pages (overlaid copy (q * p) now) p qs left) (take_at _ _ _ long) (drop_at _ _ _ long)
 
 module _ (p : ℕ) (memory : List ℕ) (paged : 0 < p) where
   length_with_page : (copy : List ℕ) (q : ℕ) → length memory ≡ length copy → q * p < length memory → length memory ≡ length (with_page p memory copy q)

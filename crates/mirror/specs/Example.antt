@@ -26,8 +26,8 @@ abbrev pub before_parcel : Run
 before_parcel = then (then (then (then (start zeros) (stores (by_atomic (view 0 10) (7 ∷ 8 ∷ []) 2))) (opens (view 8 2))) (puts 0 (9 ∷ []) 1)) (settles 0)
 
 -- then the parcel is taken
-abbrev pub after-parcel : Run
-after-parcel = then before_parcel (takes 100)
+abbrev pub after_parcel : Run
+after_parcel = then before_parcel (takes 100)
 
 -- the parcel that it takes: the page size, two pages, ten bytes, pages 0 and 2, and the bytes of each
 abbrev pub sent_bytes : List ℕ
@@ -42,13 +42,13 @@ sent_bytes =
 
 -- the run is legal, its first store lies whole, its parcel carries pages 0 and 2, and then memory and copy are equal and every page is clean
 pub record Stands : Type 0 where
-  pub legal : Legal after-parcel
-  pub fits : Fits (state after-parcel).memory (state after-parcel).bitmap
+  pub legal : Legal after_parcel
+  pub fits : Fits (state after_parcel).memory (state after_parcel).bitmap
   pub behind : (state before_parcel).copy ≡ ten_zeros
   pub unclaimed : (state before_parcel).claims ≡ []
   pub whole : LiesWhole before_parcel 2 (7 ∷ 8 ∷ [])
   pub parcel : taken (state before_parcel).bitmap (state before_parcel).memory 100 ≡ gives sent_bytes
   pub page_numbers : numbers sent_bytes 3 (number_at sent_bytes 1) ≡ 0 ∷ 2 ∷ []
-  pub memory : (state after-parcel).memory ≡ 0 ∷ 0 ∷ 7 ∷ 8 ∷ 0 ∷ 0 ∷ 0 ∷ 0 ∷ 0 ∷ 9 ∷ []
-  pub copy : (state after-parcel).copy ≡ (state after-parcel).memory
-  pub all_clean : (q : ℕ) → dirty (state after-parcel).bitmap q ≡ false
+  pub memory : (state after_parcel).memory ≡ 0 ∷ 0 ∷ 7 ∷ 8 ∷ 0 ∷ 0 ∷ 0 ∷ 0 ∷ 0 ∷ 9 ∷ []
+  pub copy : (state after_parcel).copy ≡ (state after_parcel).memory
+  pub all_clean : (q : ℕ) → dirty (state after_parcel).bitmap q ≡ false

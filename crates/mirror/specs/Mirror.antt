@@ -87,11 +87,11 @@ abbrev pub Among : ℕ → List ℕ → Type 0
 Among q qs = (i : ℕ) × (i < length qs) × (slice_index qs i ≡ q)
 
 -- the parcel that is due after a run, and what a taking with room for so many bytes gives then
-abbrev pub due-after : Run → List ℕ
-due-after r = due (state r).bitmap (state r).memory
+abbrev pub due_after : Run → List ℕ
+due_after r = due (state r).bitmap (state r).memory
 
-abbrev pub taken-after : Run → ℕ → Answer (List ℕ)
-taken-after r room = taken (state r).bitmap (state r).memory room
+abbrev pub taken_after : Run → ℕ → Answer (List ℕ)
+taken_after r room = taken (state r).bitmap (state r).memory room
 
 -- (c) a parcel that is taken after the run: just the pages that (b) calls dirty, with the memory's bytes; the copy accepts it, and with no claim open equals the memory then, and what lies whole is loaded there
 pub record Exact (r : Run) (bs : List ℕ) : Type 0 where
@@ -108,6 +108,6 @@ pub record Exact (r : Run) (bs : List ℕ) : Type 0 where
 pub record Law (r : Run) : Type 0 where
   pub even : length (state r).copy ≡ length (state r).memory
   pub differs : DiffersForAReason (state r)
-  pub dirty-pages : DirtyForAReason r
-  pub exact : (room : ℕ) (bs : List ℕ) → taken-after r room ≡ gives bs → Exact r bs
-  pub given : (room : ℕ) → length (due-after r) ≤ room → taken-after r room ≡ gives (due-after r)
+  pub dirty_pages : DirtyForAReason r
+  pub exact : (room : ℕ) (bs : List ℕ) → taken_after r room ≡ gives bs → Exact r bs
+  pub given : (room : ℕ) → length (due_after r) ≤ room → taken_after r room ≡ gives (due_after r)

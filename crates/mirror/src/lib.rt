@@ -47,7 +47,7 @@ pub fn refresh<B: CleanBitmap, T: ByteValued>(
     ensures means { B.Bitmap.means bitmap.new ≡ left (B.Bitmap.means bitmap.old) memory.now (taken (B.Bitmap.means bitmap.old) memory.now (length buf.old)) }
     ensures lent { B.Bitmap.lent bitmap.new ≡ B.Bitmap.lent bitmap.old }
     ensures copy { copy.new ≡ copy_then (B.Bitmap.means bitmap.old) memory.now (length buf.old) copy.old }
-    ensures* law { λ a. ⌜ ((r : Run) → LeadsTo memory.now (B.Bitmap.means bitmap.old) copy.old r → Mirrors T.ByteValued.size T.ByteValued.bytes T.ByteValued.Holds (span element.now.slice) r (length buf.old) (B.Bitmap.means bitmap.new) copy.new (said (λ a. ((a.taken.length, a.taken.pages), a.element)) a)) ⌝ }
+    ensures law { (r : Run) → LeadsTo memory.now (B.Bitmap.means bitmap.old) copy.old r → Mirrors T.ByteValued.size T.ByteValued.bytes T.ByteValued.Holds (span element.now.slice) r (length buf.old) (B.Bitmap.means bitmap.new) copy.new (said (λ a. ((a.taken.length, a.taken.pages), a.element)) result) }
     ensures calls { MakesRuns T.ByteValued.size T.ByteValued.bytes }
 {
     numbers_fit(memory, bitmap);

@@ -1,10 +1,10 @@
 -- Applying, by its steps. Assumes nothing.
 use Rattle.std.proofs.Common.{◌≡◌, ℕ, ◌+◌, ◌*◌, ◌<◌, ◌≤◌, min, Bool, true, false, cond, not, ◌||◌, eqb, ltb, List, length, drop, sym, refl, ap, ◌∙◌, inl, inr, arith}
-use Rattle.std.proofs.lemmas.Bool.{cases_Bool, cond-true, cond-false, or_parts, ltb-false, eqb-false, eqb-true, eq-eqb, not-false, not_from_true, not_from_false}
+use Rattle.std.proofs.lemmas.Bool.{cases_Bool, cond-true, cond-false, or_parts, ltb-false, eqb-false, eqb-true, not-false}
 use Rattle.volatile_memory.specs.Faults.{Fault, Answer, bad_parcel}
 use Rattle.volatile_memory.specs.Faults.Answer.{gives, refuses}
-use Rattle.parcel.specs.Parcels.{pages, page_length, number_at, numbers, wrong_from, sum_of, laid-pages, unless, applied}
-use Rattle.parcel.specs.Rules.{head-rules, length_rule, rules, told-length, Below}
+use Rattle.parcel.specs.Parcels.{pages, page_length, number_at, numbers, wrong_from, sum_of, laid_pages, unless, applied}
+use Rattle.parcel.specs.Rules.{head_rules, length_rule, rules, told_length, Below}
 use Rattle.parcel.proofs.PageNumbers.{right_below}
 
 -- what stands behind a step that was refused, or passed
@@ -33,7 +33,7 @@ passed false false true t₄ f₁ f₂ f₃ f₄ x is = let z : ◌≡◌ {A = �
 passed false true t₃ t₄ f₁ f₂ f₃ f₄ x is = let z : ◌≡◌ {A = ℕ} 0 1 = cc in absurd (omega arith)
 passed true t₂ t₃ t₄ f₁ f₂ f₃ f₄ x is = let z : ◌≡◌ {A = ℕ} 0 1 = cc in absurd (omega arith)
 
-pub headed : (n : ℕ) (bs : List ℕ) → gives 0 ≡ head-rules n bs → Headed n bs
+pub headed : (n : ℕ) (bs : List ℕ) → gives 0 ≡ head_rules n bs → Headed n bs
 headed n bs is =
     let tests = passed (ltb (length bs) 24) (eqb (number_at bs 0) 0) (not (eqb (number_at bs 2) n)) (ltb (pages (number_at bs 2) (number_at bs 0)) (number_at bs 1) || ltb (length bs) (24 + 8 * number_at bs 1)) _ _ _ _ 0 is in
     let some = eqb-false (number_at bs 0) 0 tests.1 in
@@ -56,12 +56,12 @@ length_right n owed is =
 
 -- the rules one after another, for a copy of n bytes
 module _ (n : ℕ) (bs : List ℕ) where
-  pub rules-head : (f : Fault) → refuses f ≡ head-rules n bs → rules n bs ≡ refuses f
+  pub rules-head : (f : Fault) → refuses f ≡ head_rules n bs → rules n bs ≡ refuses f
   unfolding rules
   rules-head f is =
       ap (λ a. unless a (unless (wrong_from bs (pages (number_at bs 2) (number_at bs 0)) 0 3 (number_at bs 1)) (length_rule (length bs) (24 + 8 * number_at bs 1 + sum_of (page_length (number_at bs 0) n) (numbers bs 3 (number_at bs 1)))))) (sym is)
 
-  module _ (p k : ℕ) (p_is : p ≡ number_at bs 0) (k_is : k ≡ number_at bs 1) (head_right : gives 0 ≡ head-rules n bs) where
+  module _ (p k : ℕ) (p_is : p ≡ number_at bs 0) (k_is : k ≡ number_at bs 1) (head_right : gives 0 ≡ head_rules n bs) where
     past_head : rules n bs ≡ unless (wrong_from bs (pages n p) 0 3 k) (length_rule (length bs) (24 + 8 * k + sum_of (page_length p n) (numbers bs 3 k)))
     unfolding rules
     past_head =
@@ -101,7 +101,7 @@ unfolding rules
 kept-rules n bs is =
     let p = number_at bs 0 in
     let k = number_at bs 1 in
-    let first = behind_step (head-rules n bs) (unless (wrong_from bs (pages (number_at bs 2) p) 0 3 k) (length_rule (length bs) (24 + 8 * k + sum_of (page_length p n) (numbers bs 3 k)))) 0 is in
+    let first = behind_step (head_rules n bs) (unless (wrong_from bs (pages (number_at bs 2) p) 0 3 k) (length_rule (length bs) (24 + 8 * k + sum_of (page_length p n) (numbers bs 3 k)))) 0 is in
     let right = gave_zero (ltb (length bs) 24) (eqb p 0) (not (eqb (number_at bs 2) n)) (ltb (pages (number_at bs 2) p) k || ltb (length bs) (24 + 8 * k)) _ _ _ _ first.0.0 first.0.1 in
     let head = headed n bs right in
     let second = behind_step (wrong_from bs (pages (number_at bs 2) p) 0 3 k) (length_rule (length bs) (24 + 8 * k + sum_of (page_length p n) (numbers bs 3 k))) 0 first.1 in
@@ -125,19 +125,19 @@ in_order false false false false true f₁ f₂ f₃ f₄ f₆ (refuses g) x = r
 in_order false false false false false f₁ f₂ f₃ f₄ f₆ (refuses g) x = refl
 
 -- applying is the rules, and then the pages
-pub rules-applied : (copy bs : List ℕ) → applied copy bs ≡ unless (rules (length copy) bs) (gives (laid-pages copy (number_at bs 0) (numbers bs 3 (number_at bs 1)) (drop (24 + 8 * number_at bs 1) bs)))
+pub rules-applied : (copy bs : List ℕ) → applied copy bs ≡ unless (rules (length copy) bs) (gives (laid_pages copy (number_at bs 0) (numbers bs 3 (number_at bs 1)) (drop (24 + 8 * number_at bs 1) bs)))
 unfolding applied rules
 rules-applied copy bs =
     let p = number_at bs 0 in
     let k = number_at bs 1 in
     let n = number_at bs 2 in
     let owed = 24 + 8 * k + sum_of (page_length p (length copy)) (numbers bs 3 k) in
-    in_order (ltb (length bs) 24) (eqb p 0) (not (eqb n (length copy))) (ltb (pages n p) k || ltb (length bs) (24 + 8 * k)) (eqb (length bs) owed) (bad_parcel 1 (length bs)) (bad_parcel 2 0) (bad_parcel 3 16) (bad_parcel 4 8) (bad_parcel 6 (min (length bs) owed)) (wrong_from bs (pages n p) 0 3 k) (laid-pages copy p (numbers bs 3 k) (drop (24 + 8 * k) bs))
+    in_order (ltb (length bs) 24) (eqb p 0) (not (eqb n (length copy))) (ltb (pages n p) k || ltb (length bs) (24 + 8 * k)) (eqb (length bs) owed) (bad_parcel 1 (length bs)) (bad_parcel 2 0) (bad_parcel 3 16) (bad_parcel 4 8) (bad_parcel 6 (min (length bs) owed)) (wrong_from bs (pages n p) 0 3 k) (laid_pages copy p (numbers bs 3 k) (drop (24 + 8 * k) bs))
 
 -- a parcel too short to tell the memory's length breaks the first rule anyway
-pub rules-told : (bs : List ℕ) → rules (told-length bs) bs ≡ rules (number_at bs 2) bs
+pub rules-told : (bs : List ℕ) → rules (told_length bs) bs ≡ rules (number_at bs 2) bs
 rules-told bs =
     elim (cases_Bool (ltb (length bs) 24)) [
-      | inl e ↦ let short : (m : ℕ) → refuses (bad_parcel 1 (length bs)) ≡ head-rules m bs = λ m. sym (cond-true _ _ _ e) in rules-head (told-length bs) bs _ (short (told-length bs)) ∙ sym (rules-head (number_at bs 2) bs _ (short (number_at bs 2)))
+      | inl e ↦ let short : (m : ℕ) → refuses (bad_parcel 1 (length bs)) ≡ head_rules m bs = λ m. sym (cond-true _ _ _ e) in rules-head (told_length bs) bs _ (short (told_length bs)) ∙ sym (rules-head (number_at bs 2) bs _ (short (number_at bs 2)))
       | inr e ↦ ap (λ m. rules m bs) (cond-false _ _ _ e)
     ]

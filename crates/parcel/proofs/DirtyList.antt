@@ -1,5 +1,5 @@
 -- The list of the dirty pages below a number, page by page. Assumes nothing.
-use Rattle.std.proofs.Common.{◌≡◌, ℕ, zero, suc, ◌+◌, ◌-◌, ◌*◌, ◌<◌, ◌≤◌, min, Bool, true, false, cond, List, [], ◌∷◌, ◌++◌, length, sym, refl, ap, ◌∙◌, inl, inr, append-nil, suc-mul, zero-mul, arith, length-append}
+use Rattle.std.proofs.Common.{◌≡◌, ℕ, zero, suc, ◌+◌, ◌*◌, ◌<◌, ◌≤◌, min, Bool, true, false, cond, List, [], ◌∷◌, ◌++◌, length, refl, ap, inl, inr, append-nil, suc-mul, arith, length-append}
 use Rattle.std.proofs.lemmas.Bool.{cases_eq}
 use Rattle.parcel.specs.Parcels.{dirty_below, page_length, sum_of}
 
@@ -32,10 +32,10 @@ maybe_sum f xs false y = (rw (append-nil xs) (omega arith), rw (append-nil xs) (
 
 module _ (d : ℕ → Bool) where
   -- there are no more dirty pages than pages
-  pub dirty-count : (n : ℕ) → length (dirty_below d n) ≤ n
+  pub dirty_count : (n : ℕ) → length (dirty_below d n) ≤ n
   unfolding dirty_below
-  dirty-count zero = omega arith
-  dirty-count (suc n) = omega (arith, dirty-count n, (maybe_length (dirty_below d n) (d n) n).1)
+  dirty_count zero = omega arith
+  dirty_count (suc n) = omega (arith, dirty_count n, (maybe_length (dirty_below d n) (d n) n).1)
 
   -- and below more pages no fewer
   dirty_grows : (m n : ℕ) → m ≤ n → length (dirty_below d m) ≤ length (dirty_below d n)

@@ -1,11 +1,11 @@
 -- A parcel's page numbers, looked at one by one. Assumes nothing.
-use Rattle.std.proofs.Common.{◌≡◌, ℕ, zero, suc, ◌+◌, ◌-◌, ◌*◌, ◌<◌, ◌≤◌, min, true, false, cond, ◌&&◌, ltb, leb, List, [], ◌∷◌, length, take, drop, sym, refl, ap, ◌∙◌, subst, inl, inr, mul-le-mul_right, suc-mul, arith}
+use Rattle.std.proofs.Common.{◌≡◌, ℕ, zero, suc, ◌+◌, ◌-◌, ◌*◌, ◌<◌, ◌≤◌, min, true, false, cond, ◌&&◌, ltb, leb, List, [], ◌∷◌, length, take, drop, sym, ap, ◌∙◌, subst, inl, inr, mul-le-mul_right, suc-mul, arith}
 use Rattle.std.proofs.lemmas.List.{drop-drop}
 use Rattle.std.proofs.lemmas.Bool.{cases_Bool, cond-true, cond-false, and_parts, leb-true, ltb-true}
 use Rattle.volatile_memory.specs.Faults.{bad_parcel}
 use Rattle.volatile_memory.specs.Faults.Answer.{gives, refuses}
 use Rattle.volatile_memory.specs.Memory.{overlaid}
-use Rattle.parcel.specs.Parcels.{number_at, numbers, wrong_from, page_length, sum_of, laid-pages}
+use Rattle.parcel.specs.Parcels.{number_at, numbers, wrong_from, page_length, sum_of, laid_pages}
 use Rattle.parcel.specs.Rules.{Below}
 
 one_less : (i k : ℕ) → i < k → k - i ≡ suc (k - (i + 1))
@@ -68,7 +68,7 @@ next_within p total low q bytes sofar above =
     rw e (omega (arith, suc-mul q p))
 
 -- one page more laid
-pub lay_next : (copy bs qs : List ℕ) (p q at end : ℕ) → end ≡ at + page_length p (length copy) q → laid-pages copy p (q ∷ qs) (drop at bs) ≡ laid-pages (overlaid copy (q * p) (take (end - at) (drop at bs))) p qs (drop end bs)
+pub lay_next : (copy bs qs : List ℕ) (p q at end : ℕ) → end ≡ at + page_length p (length copy) q → laid_pages copy p (q ∷ qs) (drop at bs) ≡ laid_pages (overlaid copy (q * p) (take (end - at) (drop at bs))) p qs (drop end bs)
 lay_next copy bs qs p q at end is =
     let e : end - at ≡ page_length p (length copy) q = omega arith in
-    rw (e, is) (ap (laid-pages (overlaid copy (q * p) (take (page_length p (length copy) q) (drop at bs))) p qs) (drop-drop (page_length p (length copy) q) at bs))
+    rw (e, is) (ap (laid_pages (overlaid copy (q * p) (take (page_length p (length copy) q) (drop at bs))) p qs) (drop-drop (page_length p (length copy) q) at bs))

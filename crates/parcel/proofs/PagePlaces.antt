@@ -1,5 +1,5 @@
 -- Where pages lie in a memory. Assumes nothing.
-use Rattle.std.proofs.Common.{◌≡◌, ℕ, suc, ◌+◌, ◌-◌, ◌*◌, ◌/◌, ◌%◌, ◌^◌, ◌<◌, ◌≤◌, min, refl, ap, ◌∙◌, mul-le-mul_right, div-mul-le_self, arith}
+use Rattle.std.proofs.Common.{◌≡◌, ℕ, ◌+◌, ◌-◌, ◌*◌, ◌^◌, ◌<◌, ap, mul-le-mul_right, div-mul-le_self, arith}
 use Rattle.std.proofs.lemmas.Nat.{div-mul-add}
 use Rattle.bitmap.specs.Pages.{Meaning, ceiling, place, dirty, dirty_at}
 

@@ -1,12 +1,12 @@
 -- Taking, by its steps. Assumes nothing.
-use Rattle.std.proofs.Common.{◌≡◌, ℕ, zero, suc, ◌+◌, ◌-◌, ◌*◌, ◌/◌, ◌%◌, ◌^◌, ◌<◌, ◌≤◌, min, Bool, true, false, cond, not, ◌&&◌, eqb, ltb, leb, List, length, sym, refl, ap, ◌∙◌, inl, inr, arith}
+use Rattle.std.proofs.Common.{◌≡◌, ℕ, zero, suc, ◌+◌, ◌-◌, ◌*◌, ◌/◌, ◌<◌, ◌≤◌, min, true, false, cond, ◌&&◌, eqb, ltb, leb, List, length, sym, ap, ◌∙◌, inl, inr, arith}
 use native.Mathlib.Nat.{add-div_right}
 use Rattle.std.proofs.lemmas.Nat.{div_below}
-use Rattle.std.proofs.lemmas.Bool.{cases_Bool, cases_lt, cond-true, cond-false, and_parts, leb-true, eqb-true, ltb-false, le-ltb, not_from_true, not_from_false}
+use Rattle.std.proofs.lemmas.Bool.{cases_Bool, cond-true, cond-false, and_parts, leb-true, eqb-true, ltb-false, le-ltb, not_from_true, not_from_false}
 use Rattle.std.proofs.lemmas.Bool.Decides.{nat_tests}
-use Rattle.bitmap.specs.Pages.{Meaning, top, ceiling, dirty, place, spans, reaches, cleaned}
+use Rattle.bitmap.specs.Pages.{Meaning, top, ceiling, dirty, place, spans, cleaned}
 use Rattle.bitmap.proofs.PageLaws.{assigned_by}
-use Rattle.volatile_memory.specs.Faults.{Fault, Answer, uncovered, no_room}
+use Rattle.volatile_memory.specs.Faults.{Fault, uncovered, no_room}
 use Rattle.volatile_memory.specs.Faults.Answer.{gives, refuses}
 use Rattle.parcel.specs.Parcels.{pages, page_length, dirty_below, parcel, due, covered, sum_of, taken, swept}
 use Rattle.parcel.specs.Rules.{cover, room_for}

@@ -20,8 +20,8 @@ dirty_below d zero = []
 dirty_below d (suc n) = dirty_below d n ++ cond (d n) (n ∷ []) []
 
 -- the dirty pages of a memory
-abbrev pub dirty-pages : Meaning → List ℕ → List ℕ
-dirty-pages b memory = dirty_below (dirty b) (pages (length memory) b.page)
+abbrev pub dirty_pages : Meaning → List ℕ → List ℕ
+dirty_pages b memory = dirty_below (dirty b) (pages (length memory) b.page)
 
 -- numbers, 8 bytes each
 abbrev pub words : List ℕ → List ℕ
@@ -41,7 +41,7 @@ parcel p memory qs = words (head p memory qs) ++ bodies p memory qs
 
 -- the parcel that a bitmap calls for
 abbrev pub due : Meaning → List ℕ → List ℕ
-due b memory = parcel b.page memory (dirty-pages b memory)
+due b memory = parcel b.page memory (dirty_pages b memory)
 
 -- the bitmap has every page of the memory
 abbrev pub covered : Meaning → List ℕ → Bool
@@ -78,10 +78,10 @@ sum_of f [] = 0
 sum_of f (x ∷ xs) = f x + sum_of f xs
 
 -- the pages' bytes laid at their places
-abbrev pub laid-pages : List ℕ → ℕ → List ℕ → List ℕ → List ℕ
-laid-pages copy p [] bs = copy
-laid-pages copy p (q ∷ qs) bs =
-    let k = page_length p (length copy) q in laid-pages (overlaid copy (q * p) (take k bs)) p qs (drop k bs)
+abbrev pub laid_pages : List ℕ → ℕ → List ℕ → List ℕ → List ℕ
+laid_pages copy p [] bs = copy
+laid_pages copy p (q ∷ qs) bs =
+    let k = page_length p (length copy) q in laid_pages (overlaid copy (q * p) (take k bs)) p qs (drop k bs)
 
 -- what stands, unless an answer before it refuses
 abbrev pub unless : {X Y : Type 0} → Answer X → Answer Y → Answer Y
@@ -99,4 +99,4 @@ applied copy bs =
     (cond (nat_lt (pages n p) k || nat_lt (length bs) (24 + 8 * k)) (refuses (bad_parcel 4 8))
     (unless (wrong_from bs (pages n p) 0 3 k)
     (cond (not (length bs == owed)) (refuses (bad_parcel 6 (min (length bs) owed)))
-    (gives (laid-pages copy p qs (drop (24 + 8 * k) bs))))))))
+    (gives (laid_pages copy p qs (drop (24 + 8 * k) bs))))))))

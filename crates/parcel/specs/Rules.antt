@@ -23,8 +23,8 @@ abbrev pub room_for : ℕ → ℕ → Answer ℕ
 room_for owed room = cond (nat_lt room owed) (refuses (no_room (min owed top))) (gives owed)
 
 -- rules 1 to 4, for a copy of n bytes
-abbrev pub head-rules : ℕ → List ℕ → Answer ℕ
-head-rules n bs =
+abbrev pub head_rules : ℕ → List ℕ → Answer ℕ
+head_rules n bs =
     cond (nat_lt (length bs) 24) (refuses (bad_parcel 1 (length bs)))
     (cond (number_at bs 0 == 0) (refuses (bad_parcel 2 0))
     (cond (not (number_at bs 2 == n)) (refuses (bad_parcel 3 16))
@@ -44,11 +44,11 @@ Below n (q ∷ qs) = (q < n) × Below n qs
 unfoldable pub rules : ℕ → List ℕ → Answer ℕ
 rules n bs =
     let p = number_at bs 0 in let k = number_at bs 1 in
-    unless (head-rules n bs) (unless (wrong_from bs (pages (number_at bs 2) p) 0 3 k) (length_rule (length bs) (24 + 8 * k + sum_of (page_length p n) (numbers bs 3 k))))
+    unless (head_rules n bs) (unless (wrong_from bs (pages (number_at bs 2) p) 0 3 k) (length_rule (length bs) (24 + 8 * k + sum_of (page_length p n) (numbers bs 3 k))))
 
 -- the memory's length as a parcel tells it, 0 where it is too short to tell
-abbrev pub told-length : List ℕ → ℕ
-told-length bs = cond (nat_lt (length bs) 24) 0 (number_at bs 2)
+abbrev pub told_length : List ℕ → ℕ
+told_length bs = cond (nat_lt (length bs) 24) 0 (number_at bs 2)
 
 -- what a parcel says of itself, unless it breaks a rule: the page size, how many pages it carries, the memory's length
 abbrev pub inspected : List ℕ → Answer (ℕ × ℕ × ℕ)

@@ -2,9 +2,9 @@
 ghost use Rattle.std.specs.Prelude.{◌≡◌, ◌+◌, ◌*◌, ◌≤◌, ◌&&◌, length, drop, nat_le, nat_lt};
 ghost use Rattle.volatile_memory.specs.Faults.{said};
 ghost use Rattle.volatile_memory.specs.Faults.Answer.{gives};
-ghost use Rattle.parcel.specs.Parcels.{pages, page_length, numbers, wrong_from, sum_of, laid-pages, unless, applied};
+ghost use Rattle.parcel.specs.Parcels.{pages, page_length, numbers, wrong_from, sum_of, laid_pages, unless, applied};
 ghost use Rattle.parcel.specs.Outcomes.{accepted, kept};
-ghost use Rattle.parcel.specs.Rules.{head-rules, length_rule, rules, Below};
+ghost use Rattle.parcel.specs.Rules.{head_rules, length_rule, rules, Below};
 
 use crate::layout::Layout;
 use crate::numbers::{lay, number_at};
@@ -12,7 +12,7 @@ use volatile_memory::Error;
 
 // A parcel's head has to fit a copy of `total` bytes.
 fn check_head(parcel: &[u8], total: usize) -> Result<(), Error>
-    ensures { said (λ _. 0) result ≡ head-rules total parcel.now }
+    ensures { said (λ _. 0) result ≡ head_rules total parcel.now }
 {
     if parcel.len() < 24 {
         return Err(Error::BadParcel {
@@ -84,7 +84,7 @@ fn lay_pages(copy: &mut [u8], parcel: &[u8], layout: Layout, count: usize)
     requires total { layout.total ≡ length copy.old }
     requires below { Below (pages layout.total layout.page) (numbers parcel.now 3 count) }
     requires whole { length parcel.now ≡ 24 + 8 * count + sum_of (page_length layout.page layout.total) (numbers parcel.now 3 count) }
-    ensures { copy.new ≡ laid-pages copy.old layout.page (numbers parcel.now 3 count) (drop (24 + 8 * count) parcel.now) }
+    ensures { copy.new ≡ laid_pages copy.old layout.page (numbers parcel.now 3 count) (drop (24 + 8 * count) parcel.now) }
 {
     let mut at = 24 + 8 * count;
     for i in 0..count {

@@ -1,7 +1,7 @@
 //! What a parcel says of itself.
 ghost use Rattle.std.specs.Prelude.{◌≡◌, length};
 ghost use Rattle.volatile_memory.specs.Faults.{said};
-ghost use Rattle.parcel.specs.Rules.{inspected, told-length};
+ghost use Rattle.parcel.specs.Rules.{inspected, told_length};
 
 use crate::applying::check_parcel;
 use crate::numbers::number_at;
@@ -17,7 +17,7 @@ pub struct Contents {
 
 // The memory's length, as a parcel tells it; 0 where it is too short to tell.
 fn told_length(parcel: &[u8]) -> usize
-    ensures { result ≡ told-length parcel.now }
+    ensures { result ≡ told_length parcel.now }
 {
     if parcel.len() < 24 {
         return 0;

@@ -3,7 +3,7 @@ ghost use Rattle.std.specs.Prelude.{◌≡◌, ◌+◌, ◌*◌, ◌<◌, ◌≤
 ghost use Rattle.bitmap.specs.Pages.{dirty};
 ghost use Rattle.volatile_memory.specs.Faults.{said};
 ghost use Rattle.volatile_memory.specs.Memory.{overlaid};
-ghost use Rattle.parcel.specs.Parcels.{pages, page_length, dirty-pages, words, bodies, parcel, sum_of, taken};
+ghost use Rattle.parcel.specs.Parcels.{pages, page_length, dirty_pages, words, bodies, parcel, sum_of, taken};
 ghost use Rattle.parcel.specs.Outcomes.{told, filled, left};
 ghost use Rattle.parcel.specs.Rules.{FromStart, dirty_among, cover, room_for};
 
@@ -29,7 +29,7 @@ struct Load {
 // Whether page `q` is dirty.
 fn is_dirty<B: Bitmap>(bitmap: &B, layout: Layout, q: usize) -> bool
     requires from_start { FromStart (B.Bitmap.means bitmap.now) layout.page }
-    requires q_bound { q < pages layout.total layout.page }
+    requires below { q < pages layout.total layout.page }
     ensures { result ≡ dirty (B.Bitmap.means bitmap.now) q }
 {
     bitmap.dirty_at(layout.start(q))
@@ -92,7 +92,7 @@ fn lay_head(buf: &mut [u8], layout: Layout, count: usize) -> usize
 // Lays the numbers of the dirty pages into a buffer from `start` on, and says where they end.
 fn lay_numbers<B: Bitmap>(buf: &mut [u8], start: usize, bitmap: &B, layout: Layout) -> usize
     requires from_start { FromStart (B.Bitmap.means bitmap.now) layout.page }
-    requires page_in_bounds { start + 8 * length (dirty_among (B.Bitmap.means bitmap.now) layout.total layout.page) ≤ length buf.old }
+    requires room { start + 8 * length (dirty_among (B.Bitmap.means bitmap.now) layout.total layout.page) ≤ length buf.old }
     ensures end { result ≡ start + 8 * length (dirty_among (B.Bitmap.means bitmap.now) layout.total layout.page) }
     ensures after { buf.new ≡ overlaid buf.old start (words (dirty_among (B.Bitmap.means bitmap.now) layout.total layout.page)) }
 {
@@ -108,8 +108,8 @@ fn lay_numbers<B: Bitmap>(buf: &mut [u8], start: usize, bitmap: &B, layout: Layo
 // Lays the dirty pages of a memory into a buffer from `start` on.
 fn lay_pages<B: Bitmap>(buf: &mut [u8], start: usize, memory: &[u8], bitmap: &B, layout: Layout)
     requires from_start { FromStart (B.Bitmap.means bitmap.now) layout.page }
-    requires total_value { layout.total ≡ length memory.now }
-    requires page_in_bounds { start + sum_of (page_length layout.page layout.total) (dirty_among (B.Bitmap.means bitmap.now) layout.total layout.page) ≤ length buf.old }
+    requires total { layout.total ≡ length memory.now }
+    requires room { start + sum_of (page_length layout.page layout.total) (dirty_among (B.Bitmap.means bitmap.now) layout.total layout.page) ≤ length buf.old }
     ensures { buf.new ≡ overlaid buf.old start (bodies layout.page memory.now (dirty_among (B.Bitmap.means bitmap.now) layout.total layout.page)) }
 {
     let mut at = start;
@@ -125,9 +125,9 @@ fn lay_pages<B: Bitmap>(buf: &mut [u8], start: usize, memory: &[u8], bitmap: &B,
 fn lay_parcel<B: Bitmap>(buf: &mut [u8], memory: &[u8], bitmap: &B, layout: Layout, count: usize)
     requires start { FromStart (B.Bitmap.means bitmap.now) layout.page }
     requires total { layout.total ≡ length memory.now }
-    requires count { count ≡ length (dirty-pages (B.Bitmap.means bitmap.now) memory.now) }
-    requires room { length (parcel layout.page memory.now (dirty-pages (B.Bitmap.means bitmap.now) memory.now)) ≤ length buf.old }
-    ensures { buf.new ≡ overlaid buf.old 0 (parcel layout.page memory.now (dirty-pages (B.Bitmap.means bitmap.now) memory.now)) }
+    requires count { count ≡ length (dirty_pages (B.Bitmap.means bitmap.now) memory.now) }
+    requires room { length (parcel layout.page memory.now (dirty_pages (B.Bitmap.means bitmap.now) memory.now)) ≤ length buf.old }
+    ensures { buf.new ≡ overlaid buf.old 0 (parcel layout.page memory.now (dirty_pages (B.Bitmap.means bitmap.now) memory.now)) }
 {
     let head = lay_head(buf, layout, count);
     let numbers = lay_numbers(buf, head, bitmap, layout);
@@ -136,7 +136,7 @@ fn lay_parcel<B: Bitmap>(buf: &mut [u8], memory: &[u8], bitmap: &B, layout: Layo
 
 /// Writes the dirty pages of `memory` to the start of `buf` as a parcel, and makes them clean.
 pub fn take<B: CleanBitmap>(memory: &[u8], bitmap: &mut B, buf: &mut [u8]) -> Result<Taken, Error>
-    ensures answer { said (λ t. (t.length, t.pages)) result ≡ told (length (dirty-pages (B.Bitmap.means bitmap.old) memory.now)) (taken (B.Bitmap.means bitmap.old) memory.now (length buf.old)) }
+    ensures answer { said (λ t. (t.length, t.pages)) result ≡ told (length (dirty_pages (B.Bitmap.means bitmap.old) memory.now)) (taken (B.Bitmap.means bitmap.old) memory.now (length buf.old)) }
     ensures buffer { buf.new ≡ filled buf.old (taken (B.Bitmap.means bitmap.old) memory.now (length buf.old)) }
     ensures means { B.Bitmap.means bitmap.new ≡ left (B.Bitmap.means bitmap.old) memory.now (taken (B.Bitmap.means bitmap.old) memory.now (length buf.old)) }
     ensures lent { B.Bitmap.lent bitmap.new ≡ B.Bitmap.lent bitmap.old }

@@ -4,14 +4,14 @@ use Rattle.std.proofs.lemmas.Bool.{le-ltb}
 use Rattle.volatile_memory.specs.Faults.{no_room, bad_parcel}
 use Rattle.volatile_memory.specs.Faults.Answer.{gives, refuses}
 use Rattle.bitmap.specs.Pages.{spans, assigned}
-use Rattle.parcel.specs.Parcels.{words, dirty_below, dirty-pages, parcel, due, taken, applied}
+use Rattle.parcel.specs.Parcels.{words, dirty_below, dirty_pages, parcel, due, taken, applied}
 use Rattle.volatile_memory.specs.Calls.{write}
 use Rattle.volatile_memory.specs.Memory.{part}
 use Rattle.mirror.proofs.ExampleRun.{stands}
 use Rattle.parcel_trials.specs.Worked.{two_stored, WorkedParcels, Worked}
 
 module _ (x y : ℕ) (memory : List ℕ) (ten : length memory ≡ 10) where
-  two_pages : dirty-pages (two_stored x y) memory ≡ 0 ∷ 2 ∷ []
+  two_pages : dirty_pages (two_stored x y) memory ≡ 0 ∷ 2 ∷ []
   unfolding dirty_below assigned spans write
   two_pages = rw ten
 

@@ -6,7 +6,7 @@ use Rattle.volatile_memory.specs.Faults.{no_room, bad_parcel}
 use Rattle.volatile_memory.specs.Faults.Answer.{gives, refuses}
 use Rattle.volatile_memory.specs.Spans.{Span}
 use Rattle.mirror.specs.Example.{Stands}
-use Rattle.parcel.specs.Parcels.{words, dirty-pages, due, taken, applied}
+use Rattle.parcel.specs.Parcels.{words, dirty_pages, due, taken, applied}
 
 -- the root of ten bytes at the address 4096
 abbrev pub ten_bytes : Span
@@ -22,7 +22,7 @@ two_stored x y = stored_at (stored_at (clean 4 3) x 0) y 9
 
 -- parcels of those ten bytes
 pub record WorkedParcels : Type 0 where
-  pub two_pages : (x y : ℕ) (memory : List ℕ) → length memory ≡ 10 → dirty-pages (two_stored x y) memory ≡ 0 ∷ 2 ∷ []
+  pub two_pages : (x y : ℕ) (memory : List ℕ) → length memory ≡ 10 → dirty_pages (two_stored x y) memory ≡ 0 ∷ 2 ∷ []
   pub length_is_46 : (x y : ℕ) (memory : List ℕ) → length memory ≡ 10 → length (due (two_stored x y) memory) ≡ 46
   pub room_for_46 : (x y : ℕ) (memory : List ℕ) → length memory ≡ 10 → taken (two_stored x y) memory 46 ≡ gives (due (two_stored x y) memory)
   pub room_for_45 : (x y : ℕ) (memory : List ℕ) → length memory ≡ 10 → taken (two_stored x y) memory 45 ≡ refuses (no_room 46)

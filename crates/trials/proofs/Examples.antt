@@ -1,20 +1,19 @@
 -- The worked examples, proved of the definitions.
-use Rattle.std.proofs.Common.{◌≡◌, ℕ, zero, suc, ◌+◌, ◌*◌, ◌/◌, ◌%◌, ◌^◌, ◌<◌, ◌≤◌, Bool, true, false, cond, ◌&&◌, ◌||◌, eqb, ltb, leb, List, [], ◌∷◌, length, get_or, take, sym, refl, ap, ◌∙◌, arith, lit<, length-take}
+use Rattle.std.proofs.Common.{◌≡◌, ℕ, zero, suc, ◌/◌, ◌%◌, ◌<◌, Bool, ◌&&◌, ◌||◌, eqb, List, [], ◌∷◌, length, get_or, take, sym, refl, ap, ◌∙◌, arith, lit<, length-take}
 use Rattle.std.proofs.ByRecursion.{All-from_get_or, All-take}
 use Rattle.std.proofs.lemmas.Bool.Decides.{nat_tests}
 use Rattle.std.specs.List.{AllByRecursion as All}
-use Rattle.bitmap.specs.Pages.{Meaning, top, wrapped, spans, dirty, assigned, marked}
+use Rattle.bitmap.specs.Pages.{top, spans, dirty, assigned, marked}
 use Rattle.bitmap.specs.Tracked.{over}
 use Rattle.bitmap.specs.Storage.{bit_of, bit_at, stored}
 use Rattle.bitmap.proofs.BitLaws.{bit_of_power}
 use Rattle.bitmap.proofs.LentStorage.{stored-zeros}
 use Rattle.bitmap.proofs.StoredBits.{same_words}
-use Rattle.volatile_memory.specs.Calls.{Done, moves, laid_at, whole as all_of, write, write_slice, atomic_at, unless_refused, store, in_memory, copy_from}
-use Rattle.volatile_memory.specs.Faults.{Answer, out_of_bounds, misaligned, partial_buffer}
+use Rattle.volatile_memory.specs.Calls.{Done, moves, write, write_slice, atomic_at, unless_refused, store, copy_from}
+use Rattle.volatile_memory.specs.Faults.{out_of_bounds, misaligned, partial_buffer}
 use Rattle.volatile_memory.specs.Faults.Answer.{gives, refuses}
-use Rattle.volatile_memory.specs.Memory.{joined}
 use Rattle.volatile_memory.proofs.LaidBytes.{length_pieces}
-use Rattle.trials.specs.Worked.{three_pages, view, whole, marks, Worked, WorkedBitmaps, WorkedCuts, WorkedCalls}
+use Rattle.trials.specs.Worked.{three_pages, view, whole, marks, Worked, WorkedCuts}
 
 start_wraps : (bit : ℕ → Bool) (n : ℕ) → dirty (marked (three_pages top bit) 1 1) n ≡ (eqb n 0 || dirty (three_pages top bit) n)
 unfolding assigned spans

@@ -1,10 +1,10 @@
 -- Worked examples, as a theorem of the definitions that the contracts cite. Assumes nothing.
-use Rattle.std.specs.Prelude.{◌≡◌, ℕ, ◌^◌, ◌<◌, Bool, ◌||◌, List, [], ◌∷◌, length, replicate, ◌==◌}
+use Rattle.std.specs.Prelude.{◌≡◌, ℕ, ◌^◌, ◌<◌, Bool, ◌||◌, List, [], ◌∷◌, length, ◌==◌}
 use Rattle.std.specs.List.{AllByRecursion as All}
 use Rattle.bitmap.specs.Pages.{Meaning, top, dirty, marked}
 use Rattle.bitmap.specs.Storage.{bit_of, stored}
 use Rattle.volatile_memory.specs.Calls.{Done, write, write_slice, store, copy_from}
-use Rattle.volatile_memory.specs.Faults.{Answer, out_of_bounds, overflow, too_big, misaligned, partial_buffer}
+use Rattle.volatile_memory.specs.Faults.{out_of_bounds, overflow, too_big, misaligned, partial_buffer}
 use Rattle.volatile_memory.specs.Faults.Answer.{gives, refuses}
 use Rattle.volatile_memory.specs.Spans.{Span, root, cut, cut_array, rest}
 

@@ -1,12 +1,12 @@
 -- An element's bytes in a memory.
-use Rattle.std.proofs.Common.{◌≡◌, ℕ, ◌+◌, ◌-◌, ◌<◌, ◌≤◌, cond, eqb, leb, List, [], ◌++◌, length, take, drop, Some, None, sym, refl, ap, ◌∙◌, inl, inr, append-nil, arith}
+use Rattle.std.proofs.Common.{◌≡◌, ℕ, ◌+◌, ◌-◌, ◌≤◌, eqb, List, ◌++◌, length, take, drop, Some, sym, ap, ◌∙◌, inl, inr, append-nil, arith}
 use Rattle.std.proofs.lemmas.List.{drop_all, take_at}
 use Rattle.std.proofs.lemmas.Bool.{cases_Bool, cond-true, cond-false, le-leb}
-use Rattle.elements.specs.Buffers.{laid, made_of, has_room}
+use Rattle.elements.specs.Buffers.{laid, made_of}
 use Rattle.volatile_memory.specs.Calls.{only, lays, unless_refused}
 use Rattle.volatile_memory.specs.Faults.{Fault, Answer}
 use Rattle.volatile_memory.specs.Faults.Answer.{gives, refuses}
-use Rattle.volatile_memory.specs.Memory.{part, overlaid}
+use Rattle.volatile_memory.specs.Memory.{part}
 use Rattle.volatile_memory.specs.Spans.{Span}
 use Rattle.volatile_memory.proofs.LaidBytes.{part_of}
 

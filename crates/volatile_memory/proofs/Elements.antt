@@ -1,5 +1,5 @@
 -- Elements in a row: where each lies. Assumes nothing.
-use Rattle.std.proofs.Common.{◌≡◌, ℕ, zero, suc, ◌+◌, ◌-◌, ◌*◌, ◌/◌, ◌<◌, ◌≤◌, min, sym, refl, ap, ◌∙◌, mul-le-mul_right, add-mul, le-div_iff_mul-le, div-mul-le_self, arith}
+use Rattle.std.proofs.Common.{◌≡◌, ℕ, ◌+◌, ◌*◌, ◌/◌, ◌<◌, ◌≤◌, min, mul-le-mul_right, add-mul, le-div_iff_mul-le, div-mul-le_self, arith}
 
 -- element i of those that lie in s bytes ends within them, where r is their size as the code has it
 pub element_within : (s z r i : ℕ) → 0 < z → r ≡ z → i < s / z → i * r + r ≤ s

@@ -1,9 +1,9 @@
 -- Every call that touches memory, by its case. Assumes nothing.
-use Rattle.std.specs.Prelude.{◌≡◌, ℕ, ◌+◌, ◌-◌, ◌*◌, ◌/◌, ◌%◌, min, cond, List, [], length, take, ◌==◌, nat_le, nat_lt}
+use Rattle.std.specs.Prelude.{◌≡◌, ℕ, ◌+◌, ◌-◌, ◌*◌, ◌%◌, min, cond, List, [], length, take, ◌==◌, nat_le, nat_lt}
 use Rattle.bitmap.specs.Pages.{Meaning, top, wrapped, marked}
 use Rattle.volatile_memory.specs.Faults.{Answer, out_of_bounds, overflow, misaligned, partial_buffer, no_element, foreign}
 use Rattle.volatile_memory.specs.Faults.Answer.{gives, refuses}
-use Rattle.volatile_memory.specs.Spans.{Span, address, cut, count}
+use Rattle.volatile_memory.specs.Spans.{Span, address, count}
 use Rattle.volatile_memory.specs.Memory.{part, overlaid, joined, elements}
 
 -- what a storing call does: its answer, the bytes that it lays in memory from a place on, and the range that it marks

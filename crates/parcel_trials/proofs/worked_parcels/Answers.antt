@@ -1,4 +1,3 @@
-use Rattle.std.proofs.Common.{rules}
 use Rattle.parcel_trials.proofs.ParcelExamples.{worked}
 use Rattle.parcel_trials.proofs.worked_parcels.Goals as goal
 

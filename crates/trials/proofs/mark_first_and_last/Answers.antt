@@ -1,4 +1,4 @@
-use Rattle.std.proofs.Common.{◌≡◌, ℕ, ap, ◌∙◌, rules}
+use Rattle.std.proofs.Common.{◌≡◌, ap, rules}
 use Rattle.bitmap.specs.Pages.{marked}
 use Rattle.bitmap.specs.Storage.{bit_of, stored}
 use Rattle.bitmap.specs.Tracked.{over}

@@ -1,6 +1,5 @@
-use Rattle.std.proofs.Common.{length, refl, ap, ◌∙◌, arith}
+use Rattle.std.proofs.Common.{length, refl, arith}
 use Rattle.std.proofs.lemmas.Result.{err_from_is_err_and}
-use Rattle.parcel.specs.Parcels.{unless}
 use Rattle.parcel.proofs.AppliedSteps.{kept-rules, rules-applied}
 use Rattle.parcel.proofs.applying.apply.Goals as goal
 
@@ -16,9 +15,9 @@ number_at-count-requires c = omega (arith, (kept-rules (length c.args.copy.now) 
 pub number_at-requires : goal.number_at-requires
 number_at-requires c = omega (arith, (kept-rules (length c.args.copy.now) c.args.parcel.now c.in_ok-check_parcel.ensures).head.long)
 
-pub invariant-of-layout : goal.invariant-of-layout
-invariant-of-layout c =
-    (rw c.number_at.ensures (kept-rules (length c.args.copy.now) c.args.parcel.now c.in_ok-check_parcel.ensures).head.paged, tt)
+pub invariant_of-layout : goal.invariant_of-layout
+invariant_of-layout c =
+    record { paged = rw c.number_at.ensures (kept-rules (length c.args.copy.now) c.args.parcel.now c.in_ok-check_parcel.ensures).head.paged }
 
 pub lay_pages-requires : goal.lay_pages-requires
 lay_pages-requires c =

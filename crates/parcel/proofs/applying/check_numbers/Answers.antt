@@ -1,4 +1,4 @@
-use Rattle.std.proofs.Common.{◌≡◌, ℕ, ◌+◌, ◌-◌, ◌*◌, ◌<◌, ◌≤◌, sym, ap, ◌∙◌, arith}
+use Rattle.std.proofs.Common.{sym, ap, ◌∙◌, arith}
 use Rattle.volatile_memory.specs.Faults.Answer.{gives}
 use Rattle.parcel.specs.Parcels.{page_length, numbers, wrong_from, sum_of, unless}
 use Rattle.parcel.proofs.PageNumbers.{sum_next, right_next, wrong_here, right_above, next_within}

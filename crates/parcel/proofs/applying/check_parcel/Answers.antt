@@ -1,4 +1,4 @@
-use Rattle.std.proofs.Common.{◌≡◌, ℕ, ◌+◌, ◌*◌, ◌≤◌, List, length, sym, refl, ap, ◌∙◌, arith}
+use Rattle.std.proofs.Common.{◌≡◌, ℕ, ◌+◌, ◌*◌, ◌≤◌, List, length, sym, ◌∙◌, arith}
 use Rattle.std.proofs.lemmas.Result.{err_from_is_err_and}
 use Rattle.parcel.specs.Parcels.{number_at}
 use Rattle.parcel.proofs.AppliedSteps.{Headed, headed, rules-head, rules-numbers, rules-length}
@@ -19,9 +19,9 @@ number_at-count-requires c = omega (arith, (headed c.args.total c.args.parcel.no
 pub number_at-requires : goal.number_at-requires
 number_at-requires c = omega (arith, (headed c.args.total c.args.parcel.now c.in_ok-check_head.ensures).long)
 
-pub invariant-of-layout : goal.invariant-of-layout
-invariant-of-layout c =
-    (rw c.number_at.ensures (headed c.args.total c.args.parcel.now c.in_ok-check_head.ensures).paged, tt)
+pub invariant_of-layout : goal.invariant_of-layout
+invariant_of-layout c =
+    record { paged = rw c.number_at.ensures (headed c.args.total c.args.parcel.now c.in_ok-check_head.ensures).paged }
 
 pub check_numbers-requires : goal.check_numbers-requires
 check_numbers-requires c =

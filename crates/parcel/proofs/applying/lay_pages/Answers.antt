@@ -1,6 +1,5 @@
-use Rattle.std.proofs.Common.{◌≡◌, ℕ, ◌+◌, ◌-◌, ◌*◌, ◌<◌, ◌≤◌, List, ◌∷◌, length, drop, sym, ap, ◌∙◌, subst, arith, rules}
-use Rattle.parcel.specs.Parcels.{pages, page_length, number_at, numbers, sum_of, laid-pages}
-use Rattle.parcel.specs.Rules.{Below}
+use Rattle.std.proofs.Common.{◌≡◌, ℕ, ◌+◌, ◌-◌, List, ◌∷◌, length, drop, sym, ap, ◌∙◌, arith}
+use Rattle.parcel.specs.Parcels.{pages, page_length, numbers, laid_pages}
 use Rattle.parcel.proofs.PageNumbers.{numbers_next, lay_next, below_next, sum_next}
 use Rattle.parcel.proofs.applying.lay_pages.Goals as goal
 
@@ -31,7 +30,7 @@ loop-i-preserved c =
     let next = numbers_next bs i k c.loop-i-test.true ∙ ap (λ x. x ∷ left) (sym c.number_at-q.ensures) in
     let ends : end ≡ at + page_length p (length c.loop-i.copy) q = rw long (ap (λ n. at + n) c.size.ensures) in
     let laid = lay_next c.loop-i.copy bs left p q at end ends in (
-      c.loop-i.invariant.0 ∙ ap (λ qs. laid-pages c.loop-i.copy p qs (drop at bs)) next ∙ laid ∙ ap (λ new. laid-pages new p left (drop end bs)) (sym (rw c.start.ensures.place at c.lay.ensures.after)),
+      c.loop-i.invariant.0 ∙ ap (λ qs. laid_pages c.loop-i.copy p qs (drop at bs)) next ∙ laid ∙ ap (λ new. laid_pages new p left (drop end bs)) (sym (rw c.start.ensures.place at c.lay.ensures.after)),
       omega arith,
       (below_next bs (pages total p) i k q c.number_at-q.ensures c.loop-i-test.true c.loop-i.invariant.2).1,
     )

@@ -1,10 +1,9 @@
-use Rattle.std.proofs.Common.{◌≡◌, ltb, length, sym, refl, ap, ◌∙◌, arith}
+use Rattle.std.proofs.Common.{◌≡◌, length, sym, ap, ◌∙◌, arith}
 use Rattle.std.proofs.lemmas.Result.{err_from_is_err_and}
 use Rattle.std.proofs.lemmas.Bool.{cond-false, le-ltb}
-use Rattle.volatile_memory.specs.Faults.{Answer}
 use Rattle.volatile_memory.specs.Faults.Answer.{gives}
-use Rattle.parcel.specs.Parcels.{number_at, unless}
-use Rattle.parcel.specs.Rules.{rules, told-length}
+use Rattle.parcel.specs.Parcels.{number_at}
+use Rattle.parcel.specs.Rules.{rules}
 use Rattle.parcel.proofs.AppliedSteps.{kept-rules, rules-told}
 use Rattle.parcel.proofs.inspecting.inspect.Goals as goal
 

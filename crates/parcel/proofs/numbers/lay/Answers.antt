@@ -1,4 +1,4 @@
-use Rattle.std.proofs.Common.{◌+◌, ◌-◌, length, refl, ◌∙◌, arith}
+use Rattle.std.proofs.Common.{refl, arith}
 use Rattle.volatile_memory.proofs.LaidBytes.{overlaid_put}
 use Rattle.parcel.proofs.numbers.lay.Goals as goal
 

@@ -4,4 +4,4 @@ use Rattle.parcel.proofs.taking.is_dirty.Goals as goal
 
 pub returns : goal.returns
 returns g c =
-    c.dirty_at.ensures ∙ dirty_at_page (g.B.Bitmap.means c.args.bitmap.now) c.args.layout.page c.args.q c.start.result c.requires.0.0 c.requires.0.1 c.args.layout.paged c.start.ensures.place (omega arith)
+    c.dirty_at.ensures ∙ dirty_at_page (g.B.Bitmap.means c.args.bitmap.now) c.args.layout.page c.args.q c.start.result c.requires.from_start.0 c.requires.from_start.1 c.args.layout.paged c.start.ensures.place (omega arith)

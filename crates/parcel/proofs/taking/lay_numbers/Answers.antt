@@ -1,4 +1,4 @@
-use Rattle.std.proofs.Common.{◌≡◌, ℕ, ◌+◌, ◌*◌, Bool, true, false, List, [], ◌∷◌, length, sym, ap, ◌∙◌, arith, length-append}
+use Rattle.std.proofs.Common.{ℕ, Bool, List, [], ◌∷◌, length, sym, ap, ◌∙◌, arith, length-append}
 use Rattle.bitmap.specs.Pages.{dirty}
 use Rattle.volatile_memory.specs.Memory.{overlaid}
 use Rattle.volatile_memory.proofs.LaidBytes.{overlaid_none}
@@ -30,10 +30,10 @@ loop-q-preserved g c =
           let next = dirty_next d q (sym w.if-is_dirty.ensures) in
           let all = dirty_fits d q c.count-q-end.result (sym w.if-is_dirty.ensures) c.loop-q-test.true in
           let count = ap (λ n. length (dirty_below d n)) c.count-q-end.ensures in (
-            omega (arith, w.at_is, w.lay_number-at.ensures.end, ap length next, length-append qs (q ∷ [])),
+            omega (arith, w.at-is, w.lay_number-at.ensures.end, ap length next, length-append qs (q ∷ [])),
             w.buf-is ∙ w.lay_number-at.ensures.after ∙ rw c.loop-q.invariant.1 (number_next c.args.buf.now qs c.args.start c.loop-q.at q c.loop-q.invariant.0 (omega arith)) ∙ ap laid (sym next),
           )
       | else-is_dirty w ↦
           let next = clean_next d q (sym w.if-is_dirty.ensures) in
-          (omega (arith, w.at_is, ap length next), w.buf-is ∙ c.loop-q.invariant.1 ∙ ap laid (sym next))
+          (omega (arith, w.at-is, ap length next), w.buf-is ∙ c.loop-q.invariant.1 ∙ ap laid (sym next))
     ]

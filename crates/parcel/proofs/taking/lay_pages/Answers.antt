@@ -1,6 +1,6 @@
-use Rattle.std.proofs.Common.{◌≡◌, ℕ, ◌+◌, ◌-◌, ◌*◌, min, Bool, true, false, List, [], ◌∷◌, length, take, drop, sym, ap, ◌∙◌, arith, length-drop, length-take}
+use Rattle.std.proofs.Common.{ℕ, Bool, List, length, sym, ap, ◌∙◌, arith, length-drop, length-take}
 use Rattle.bitmap.specs.Pages.{dirty}
-use Rattle.volatile_memory.specs.Memory.{part, overlaid}
+use Rattle.volatile_memory.specs.Memory.{overlaid}
 use Rattle.volatile_memory.proofs.LaidBytes.{overlaid_none}
 use Rattle.parcel.specs.Parcels.{page_length, dirty_below, bodies, sum_of}
 use Rattle.parcel.proofs.DirtyList.{dirty_none, dirty_next, clean_next, sum_fits, sum_push}
@@ -37,13 +37,13 @@ loop-q-preserved g c =
           let next = dirty_next d q (sym w.if-is_dirty.ensures) in
           let all = sum_fits d size q c.count-q-end.result (sym w.if-is_dirty.ensures) c.loop-q-test.true in
           let count = ap (λ n. sum_of size (dirty_below d n)) c.count-q-end.ensures in
-          let same = page_part memory p q w.start-from.result w.size.result c.args.layout.total w.start-from.ensures.place w.size.ensures c.requires.1 in
-          let total = ap (λ n. sum_of (page_length p n) qs) c.requires.1 in
-          let here = ap (λ n. page_length p n q) c.requires.1 in (
-            omega (arith, w.at_is, w.lay-at.ensures.end, ap length same, length_page memory p q, ap (sum_of size) next, sum_push size qs q),
+          let same = page_part memory p q w.start-from.result w.size.result c.args.layout.total w.start-from.ensures.place w.size.ensures c.requires.total in
+          let total = ap (λ n. sum_of (page_length p n) qs) c.requires.total in
+          let here = ap (λ n. page_length p n q) c.requires.total in (
+            omega (arith, w.at-is, w.lay-at.ensures.end, ap length same, length_page memory p q, ap (sum_of size) next, sum_push size qs q),
             w.buf-is ∙ w.lay-at.ensures.after ∙ rw (c.loop-q.invariant.1, same) (page_next c.args.buf.now memory qs p c.args.start c.loop-q.at q (omega arith) (omega arith)) ∙ ap laid (sym next),
           )
       | else-is_dirty w ↦
           let next = clean_next d q (sym w.if-is_dirty.ensures) in
-          (omega (arith, w.at_is, ap (sum_of size) next), w.buf-is ∙ c.loop-q.invariant.1 ∙ ap laid (sym next))
+          (omega (arith, w.at-is, ap (sum_of size) next), w.buf-is ∙ c.loop-q.invariant.1 ∙ ap laid (sym next))
     ]

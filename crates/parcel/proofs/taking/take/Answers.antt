@@ -1,9 +1,9 @@
-use Rattle.std.proofs.Common.{◌≡◌, ℕ, ◌+◌, ◌*◌, ◌<◌, ◌≤◌, List, length, sym, refl, ap, ◌∙◌, ap₂, arith}
+use Rattle.std.proofs.Common.{◌≡◌, ◌+◌, ◌*◌, length, sym, refl, ap, ◌∙◌, ap₂, arith}
 use Rattle.std.proofs.lemmas.Result.{err_from_is_err_and}
-use Rattle.bitmap.specs.Pages.{Meaning, dirty}
+use Rattle.bitmap.specs.Pages.{dirty}
 use Rattle.volatile_memory.specs.Faults.Answer.{gives}
 use Rattle.volatile_memory.specs.Memory.{overlaid}
-use Rattle.parcel.specs.Parcels.{pages, dirty_below, dirty-pages, parcel, due}
+use Rattle.parcel.specs.Parcels.{pages, dirty_below, dirty_pages, parcel, due}
 use Rattle.parcel.proofs.TakenSteps.{cover_start, cover_enough, room_found, owed_is, taken-uncovered, taken_short, taken_gives, swept-cleaned}
 use Rattle.parcel.proofs.taking.take.Goals as goal
 
@@ -50,11 +50,11 @@ returns g c =
     let all = owed_is b memory c.get.result c.measure-carried.result.pages c.measure-carried.result.bytes page c.measure-carried.ensures.pages c.measure-carried.ensures.bytes in
     let e = taken_gives b memory (length c.args.buf.now) (24 + 8 * c.measure-carried.result.pages + c.measure-carried.result.bytes) all covers _ c.in_ok-length.ensures in
     let long : c.in_ok-length.length ≡ length (due b memory) = (room_found _ _ _ c.in_ok-length.ensures).0 ∙ all in
-    let count : c.measure-carried.result.pages ≡ length (dirty-pages b memory) = c.measure-carried.ensures.pages ∙ ap (λ p. length (dirty_below (dirty b) (pages (length memory) p))) page in
+    let count : c.measure-carried.result.pages ≡ length (dirty_pages b memory) = c.measure-carried.ensures.pages ∙ ap (λ p. length (dirty_below (dirty b) (pages (length memory) p))) page in
     let clean = swept-cleaned b memory (g.B.Bitmap.paged c.args.bitmap.now) (cover_start b (length memory) covers) (omega arith) (cover_enough b (length memory) covers) in
     rw e (record {
       answer = ap₂ (λ n k. gives (n, k)) long count;
-      buffer = c.lay_parcel.ensures ∙ ap (λ p. overlaid c.args.buf.now 0 (parcel p memory (dirty-pages b memory))) page;
+      buffer = c.lay_parcel.ensures ∙ ap (λ p. overlaid c.args.buf.now 0 (parcel p memory (dirty_pages b memory))) page;
       means = c.reset_addr_range.ensures.cleans ∙ clean;
       lent = c.reset_addr_range.ensures.lent;
     })

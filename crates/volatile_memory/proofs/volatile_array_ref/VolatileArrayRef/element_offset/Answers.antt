@@ -1,4 +1,4 @@
-use Rattle.std.proofs.Common.{◌≡◌, ◌+◌, ◌*◌, ◌<◌, ◌≤◌, ap, arith, rules}
+use Rattle.std.proofs.Common.{◌*◌, ap, arith}
 use Rattle.std.proofs.lemmas.Bool.Decides.{nat_tests}
 use Rattle.volatile_memory.proofs.Elements.{element_within}
 use Rattle.volatile_memory.proofs.volatile_array_ref.VolatileArrayRef.element_offset.Goals as goal

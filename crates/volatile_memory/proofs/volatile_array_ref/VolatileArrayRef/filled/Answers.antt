@@ -1,4 +1,4 @@
-use Rattle.std.proofs.Common.{◌≡◌, ◌*◌, ◌≤◌, div-mul-le_self, arith}
+use Rattle.std.proofs.Common.{div-mul-le_self, arith}
 use Rattle.volatile_memory.proofs.volatile_array_ref.VolatileArrayRef.filled.Goals as goal
 
 pub overflow_mul-len : goal.overflow_mul-len

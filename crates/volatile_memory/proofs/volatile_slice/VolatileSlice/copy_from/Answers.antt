@@ -1,7 +1,7 @@
-use Rattle.std.proofs.Common.{◌≡◌, ◌+◌, ◌-◌, ◌*◌, ◌/◌, ◌%◌, ◌^◌, ◌≤◌, min, map, length, take, sym, refl, ap, ◌∙◌, arith, length-take}
+use Rattle.std.proofs.Common.{◌≡◌, ◌+◌, ◌-◌, ◌*◌, min, map, length, take, sym, refl, ap, ◌∙◌, arith, length-take}
 use Rattle.std.proofs.lemmas.Result.{err_from_is_err_and}
-use Rattle.bitmap.specs.Pages.{wrapped, marked}
-use Rattle.volatile_memory.specs.Memory.{overlaid, joined}
+use Rattle.bitmap.specs.Pages.{wrapped}
+use Rattle.volatile_memory.specs.Memory.{joined}
 use Rattle.volatile_memory.specs.Spans.{span, count}
 use Rattle.volatile_memory.proofs.CallLaws.{did_nothing, found_in_memory, copy_from_refused, copy_from_lays}
 use Rattle.volatile_memory.proofs.Elements.{counted_within}

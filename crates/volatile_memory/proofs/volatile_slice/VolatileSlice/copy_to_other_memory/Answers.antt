@@ -1,9 +1,7 @@
-use Rattle.std.proofs.Common.{◌≡◌, ◌+◌, ◌-◌, min, length, sym, refl, ap, ◌∙◌, arith}
+use Rattle.std.proofs.Common.{length, refl}
 use Rattle.std.proofs.lemmas.Result.{err_from_is_err_and}
-use Rattle.bitmap.specs.Pages.{wrapped}
-use Rattle.volatile_memory.specs.Memory.{part}
 use Rattle.volatile_memory.specs.Spans.{span}
-use Rattle.volatile_memory.proofs.CallLaws.{did_nothing, found_in_memory, copy_volatile_source, copy_volatile_target, copy_volatile_lays}
+use Rattle.volatile_memory.proofs.CallLaws.{did_nothing, copy_volatile_source, copy_volatile_target, copy_volatile_lays}
 use Rattle.volatile_memory.proofs.LaidBytes.{part_of}
 use Rattle.volatile_memory.proofs.volatile_slice.VolatileSlice.copy_to_other_memory.Goals as goal
 

@@ -1,4 +1,4 @@
-use Rattle.std.proofs.Common.{◌≡◌, ◌+◌, ◌-◌, length, arith}
+use Rattle.std.proofs.Common.{◌+◌, ◌-◌, length, arith}
 use Rattle.volatile_memory.proofs.LaidBytes.{overlaid_put}
 use Rattle.volatile_memory.proofs.volatile_slice.VolatileSlice.lay.Goals as goal
 

@@ -1,4 +1,4 @@
-use Rattle.std.proofs.Common.{◌≡◌, ◌+◌, ◌-◌, length, sym, ap, ◌∙◌, arith, length-drop, length-take}
+use Rattle.std.proofs.Common.{◌≡◌, ◌+◌, ◌-◌, length, sym, ◌∙◌, arith, length-drop, length-take}
 use Rattle.volatile_memory.proofs.ElementBytes.{laid-whole}
 use Rattle.volatile_memory.proofs.LaidBytes.{overlaid_put}
 use Rattle.volatile_memory.proofs.volatile_slice.VolatileSlice.lay_element.Goals as goal

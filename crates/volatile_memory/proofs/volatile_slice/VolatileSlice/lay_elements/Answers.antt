@@ -1,4 +1,4 @@
-use Rattle.std.proofs.Common.{◌≡◌, ℕ, ◌+◌, ◌-◌, ◌*◌, ◌<◌, ◌≤◌, min, map, length, take, sym, ap, ◌∙◌, zero-mul, arith, length-drop, length-take}
+use Rattle.std.proofs.Common.{◌≡◌, ℕ, ◌+◌, ◌-◌, ◌<◌, min, map, length, take, sym, ap, ◌∙◌, zero-mul, arith, length-drop, length-take}
 use Rattle.std.proofs.lemmas.List.{take_all}
 use Rattle.volatile_memory.specs.Memory.{overlaid, joined}
 use Rattle.volatile_memory.proofs.ElementBytes.{laid-whole}

@@ -1,4 +1,4 @@
-use Rattle.std.proofs.Common.{◌≡◌, ◌+◌, ◌*◌, ◌≤◌, length, take}
+use Rattle.std.proofs.Common.{◌≡◌, ◌*◌, ◌≤◌, length, take}
 use Rattle.volatile_memory.specs.Memory.{elements}
 use Rattle.volatile_memory.proofs.volatile_slice.VolatileSlice.load_elements.Given as goal
 

@@ -1,4 +1,4 @@
-use Rattle.std.proofs.Common.{◌≡◌, ◌+◌, ◌-◌, length, sym, refl, ap, ◌∙◌, arith, length-drop, length-take}
+use Rattle.std.proofs.Common.{◌+◌, ◌-◌, length, arith, length-drop, length-take}
 use Rattle.std.proofs.lemmas.Result.{err_from_is_err_and}
 use Rattle.volatile_memory.specs.Spans.{span}
 use Rattle.volatile_memory.proofs.CallLaws.{moved_fits, fetched_refused, fetched_some, fetched_nothing}

@@ -1,4 +1,4 @@
-use Rattle.std.proofs.Common.{◌≡◌, length, refl, arith}
+use Rattle.std.proofs.Common.{length}
 use Rattle.std.proofs.lemmas.Result.{err_from_is_err_and}
 use Rattle.volatile_memory.specs.Calls.{write_slice}
 use Rattle.volatile_memory.proofs.CallLaws.{whole_refused, whole_short, whole_all}
