@@ -9,6 +9,7 @@ mod trace;
 use account::Account;
 use std::error::Error;
 use std::io::Read;
+use std::process::ExitCode;
 use std::{env, fmt, fs, io};
 
 /// Arguments that the program does not take.
@@ -96,10 +97,12 @@ fn run(rt: &HostRuntime) -> anyhow::Result<()> {
     marks(rt, bytes.as_slice())
 }
 
-fn main(rt: HostRuntime) -> anyhow::Result<()> {
-    let result = run(&rt);
-    if let Err(error) = &result {
-        let _ = eprintln!(rt; "monitor: {error}");
+fn main(rt: HostRuntime) -> ExitCode {
+    match run(&rt) {
+        Ok(()) => ExitCode::SUCCESS,
+        Err(error) => {
+            let _ = eprintln!(rt; "monitor: {error}");
+            ExitCode::FAILURE
+        }
     }
-    result
 }

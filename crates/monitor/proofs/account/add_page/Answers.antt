@@ -3,14 +3,14 @@ use lib.Seq.{set-get_or}
 use Rattle.monitor.specs.Marks.{spread}
 use Rattle.monitor.proofs.Spreads.{spread_longer, spread_push}
 use Rattle.monitor.proofs.account.add_page.Goals as goal
-use Rattle.monitor.proofs.account.add_page.Goals.{in-Some+else-range-page, else-range-page-via-then-range-page+else-page_range-eq1, else-range-page-via-else-range-page, in_default}
+use Rattle.monitor.proofs.account.add_page.Goals.{in-Some+else-range-page, else-range-page-via-then-range-page+else-page-range-eq1, else-range-page-via-else-range-page, in_default}
 
 -- an element put back is no change
 put_back : {X : Type 0} (xs : List X) (i : ℕ) (x : X) → x ≡ get_or xs i x → set xs i x ≡ xs
 put_back xs i x is = ap (set xs i) is ∙ set-get_or xs i x
 
-pub returns-then-page_range-eq1 : goal.returns-then-page_range-eq1
-returns-then-page_range-eq1 c =
+pub returns-then-page-range-eq1 : goal.returns-then-page-range-eq1
+returns-then-page-range-eq1 c =
     let found = c.in-Some.ensures.item in
     let old = c.args.ranges.now in
     let last : vec_len old - 1 + 1 ≡ length (vec_items old) = omega (arith, found.3.0, old.ok.0) in
@@ -24,7 +24,7 @@ returns c =
       | in-Some+else-range-page w ↦
           let back = put_back (vec_items old) (vec_len old - 1) w.in-Some.range.now w.in-Some.ensures.item.1 in
           elim w.else-range-page.branch [
-            | else-range-page-via-then-range-page+else-page_range-eq1 v ↦ ap vec_items (w.ranges-is ∙ v.ranges-is) ∙ back
+            | else-range-page-via-then-range-page+else-page-range-eq1 v ↦ ap vec_items (w.ranges-is ∙ v.ranges-is) ∙ back
             | else-range-page-via-else-range-page v ↦ ap vec_items (w.ranges-is ∙ v.ranges-is) ∙ back
           ]
       | in_default w ↦ ap vec_items w.ranges-is

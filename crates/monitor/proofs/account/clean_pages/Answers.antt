@@ -1,4 +1,4 @@
-use Rattle.std.proofs.Common.{◌≡◌, not, ◌&&◌, [], ◌∷◌, ◌++◌, vec_items, sym, ap, ◌∙◌}
+use Rattle.std.proofs.Common.{not, ◌&&◌, [], ◌∷◌, ◌++◌, vec_items, sym, ap, ◌∙◌}
 use Rattle.bitmap.specs.Pages.{dirty}
 use Rattle.bitmap.specs.Tracked.{tracked}
 use Rattle.monitor.specs.Marks.{spread}

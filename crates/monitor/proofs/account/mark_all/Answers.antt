@@ -1,4 +1,4 @@
-use Rattle.std.proofs.Common.{vec_items, refl, ap, ◌∙◌, arith}
+use Rattle.std.proofs.Common.{vec_items, refl, ap, ◌∙◌}
 use Rattle.std.proofs.lemmas.List.{take_all}
 use Rattle.bitmap.specs.Tracked.{tracked}
 use Rattle.monitor.specs.Marks.{after, turns, told}

@@ -1,4 +1,4 @@
-use Rattle.std.proofs.Common.{◌≡◌, ℕ, ◌+◌, ◌-◌, ◌/◌, ◌^◌, ◌<◌, min, max, sym, ap, ◌∙◌, arith}
+use Rattle.std.proofs.Common.{◌≡◌, ◌+◌, ◌-◌, ◌/◌, ◌^◌, ◌<◌, min, ap, ◌∙◌, arith}
 use Rattle.bitmap.specs.Pages.{top, wrapped}
 use Rattle.bitmap.specs.Tracked.{tracked}
 use Rattle.bitmap.proofs.PageLaws.{spans_nothing, spans_range}

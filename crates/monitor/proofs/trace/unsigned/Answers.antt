@@ -8,5 +8,5 @@ pub returns-in-Ok : goal.returns-in-Ok
 returns-in-Ok c =
     let sign = starts_char 43 c.args.digits.now c.starts_with.result c.starts_with.ensures.cases (omega arith) (omega arith) in
     let plain = without_leading_plus_none c.args.digits.now (not_from_Decides c.starts_with.result sign c.if-starts_with.false) in
-    let read = rw plain at c.in-Ok.ensures.reads in
+    let read = rw plain at c.in-Ok.ensures.value in
     (read.0.0, read.1, omega (arith, read.0.1, read.1))

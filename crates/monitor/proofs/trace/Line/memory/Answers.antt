@@ -8,8 +8,8 @@ use Rattle.monitor.proofs.trace.Line.memory.Goals as goal
 same_size : (n p : ℕ) → Some p ≡ page_size n → p ≡ n
 same_size n p e = grind (arith, nat_tests)
 
-numbers-are : (line : List ℕ) (a b c d : ℕ) → c ≡ a → d ≡ b → TwoNumbers line a b → TwoNumbers line c d
-numbers-are line a b c d p q h =
+numbers_are : (line : List ℕ) (a b c d : ℕ) → c ≡ a → d ≡ b → TwoNumbers line a b → TwoNumbers line c d
+numbers_are line a b c d p q h =
     let P : ℕ → Type 0 = λ n. TwoNumbers line n b in
     let Q : ℕ → Type 0 = λ n. TwoNumbers line c n in
     subst Q (sym q) (subst P (sym p) h)
@@ -19,4 +19,4 @@ returns-in-Ok c =
     let read = c.in_ok-byte_size in
     let made = c.in-Ok.ensures.made in
     let page = ap (λ s. s.value) made.1 ∙ same_size read.page_size c.in-Some.page_size.value c.in-Some.ensures in
-    numbers-are _ read.byte_size read.page_size _ _ made.0 page read.ensures
+    numbers_are _ read.byte_size read.page_size _ _ made.0 page read.ensures
