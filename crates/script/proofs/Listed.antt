@@ -1,5 +1,5 @@
 -- The lines of steps, with one step more. Assumes nothing.
-use Rattle.std.proofs.Common.{◌≡◌, ℕ, List, [], ◌∷◌, ◌++◌, string_bytes, refl, ap}
+use Rattle.std.proofs.Common.{◌≡◌, List, [], ◌∷◌, ◌++◌, string_bytes, refl, ap}
 use Rattle.script.specs.Scripts.{listed}
 use Rattle.script.specs.declared.command.Step.{Step}
 

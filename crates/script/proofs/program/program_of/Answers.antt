@@ -10,6 +10,6 @@ returns-in-Ok c =
     let P : List (ℕ × List ℕ) → Type 0 = Says c.args.text.now in
     record {
       first = line;
-      says = subst P (ap numbered cut ∙ ap (λ ks. line ∷ ks) (sym c.in_ok-steps.ensures)) c.in_ok-lines.ensures;
+      says = subst P (ap numbered cut ∙ ap (λ ks. line ∷ ks) (sym c.in_ok-steps-in-Ok.ensures)) c.in_ok-lines.ensures;
       small = c.in-Ok.ensures;
     }

@@ -1,4 +1,4 @@
-use Rattle.std.proofs.Common.{◌≡◌, ℕ, ◌+◌, Bool, List, [], ◌∷◌, ◌++◌, vec_items, refl, ap, ◌∙◌, subst, rules}
+use Rattle.std.proofs.Common.{ℕ, ◌+◌, Bool, List, [], ◌∷◌, ◌++◌, vec_items, refl, ap, ◌∙◌, subst, rules}
 use Rattle.std.specs.Iterator.Adapters.{enumerate_source, enumerate_count}
 use Rattle.std.specs.Str.Iter.{lines_rest}
 use Rattle.text.specs.Said.{Skips, Says, numbered}
@@ -7,7 +7,7 @@ use Rattle.text.proofs.reading.lines.Goals as goal
 
 pub loop-index-init : goal.loop-index-init
 loop-index-init c =
-    let begins = c.into_iter-index-iterator.ensures.into_iter-gives in
+    let begins = c.into_iter-index-iterator.ensures.into_iter_gives in
     (search rules, tt, none_yet _ _ _ _ refl (ap enumerate_count begins ∙ c.enumerate-index-items.ensures.count) (ap numbered c.new-lines.ensures.items))
 
 pub loop-index-preserved-then-is_skipped : goal.loop-index-preserved-then-is_skipped
@@ -29,6 +29,6 @@ loop-index-preserved c =
 pub returns : goal.returns
 returns c =
     let step = c.in-None.ensures.steps in
-    let whole = ap (λ s. lines_rest (enumerate_source s)) c.into_iter-index-iterator.ensures.into_iter-gives ∙ ap lines_rest c.enumerate-index-items.ensures.source ∙ c.lines.ensures.rest in
+    let whole = ap (λ s. lines_rest (enumerate_source s)) c.into_iter-index-iterator.ensures.into_iter_gives ∙ ap lines_rest c.enumerate-index-items.ensures.source ∙ c.lines.ensures.rest in
     let P : List ℕ → Type 0 = λ bs. Says bs (numbered (vec_items c.loop-index.lines)) in
     subst P whole (no_more _ _ _ _ c.loop-index.invariant.2 step.0.0.0)
