@@ -5,7 +5,7 @@ use Rattle.std.proofs.ByRecursion.{All-get_or}
 use Rattle.std.proofs.lemmas.List.{ext_get_or, get_or_default}
 use Rattle.std.proofs.lemmas.Bool.{cases_eq}
 use Rattle.std.proofs.lemmas.Bool.Decides.{nat_tests}
-use Rattle.std.specs.List.{AllByRecursion as All}
+use Rattle.std.specs.List.{AllByRecursion}
 use Rattle.bitmap.specs.Storage.{bit_of, bit_at, stored}
 use Rattle.bitmap.proofs.BitLaws.{same_number}
 
@@ -56,7 +56,7 @@ module _ {W : Type 0} (bit : W → ℕ → Bool) (width : ℕ) (wide : 0 < width
   stored-write ws n r x y on is h at each = rw is (write_one ws n x y on (word_within ws n width refl h) (rw is at at) (rw is at each))
 
 -- words are known by their bits
-pub same_words : (width : ℕ) → 0 < width → (ws vs : List ℕ) → All (λ w. w < 2 ^ width) ws → All (λ w. w < 2 ^ width) vs → length ws ≡ length vs → ((n : ℕ) → stored bit_of width ws n ≡ stored bit_of width vs n) → ws ≡ vs
+pub same_words : (width : ℕ) → 0 < width → (ws vs : List ℕ) → AllByRecursion (λ w. w < 2 ^ width) ws → AllByRecursion (λ w. w < 2 ^ width) vs → length ws ≡ length vs → ((n : ℕ) → stored bit_of width ws n ≡ stored bit_of width vs n) → ws ≡ vs
 unfolding stored
 same_words width wide ws vs fit fit' same each =
     ext_get_or 0 ws vs same λ i h.

@@ -3,7 +3,7 @@ use Rattle.std.proofs.Common.{◌≡◌, ℕ, ◌+◌, ◌*◌, ◌^◌, ◌<◌
 use Rattle.std.proofs.ByRecursion.{All-take}
 use Rattle.std.proofs.lemmas.Bool.{cond_both, eqb-false}
 use Rattle.std.proofs.lemmas.Bool.Decides.{nat_tests}
-use Rattle.std.specs.List.{AllByRecursion as All}
+use Rattle.std.specs.List.{AllByRecursion}
 use Rattle.volatile_memory.specs.Faults.{Fault, Answer, partial_buffer}
 use Rattle.volatile_memory.specs.Faults.Answer.{gives, refuses}
 use Rattle.volatile_memory.specs.Spans.{Span, count}
@@ -109,7 +109,7 @@ module _ (v : Span) (n : ℕ) where
       let last = mul-le-mul_right z below in
       (grind (arith, nat_tests), omega (arith, div-mul-le_self v.size z))
 
-  copy_from_view : (z : ℕ) (xs : List (List ℕ)) → All (λ bs. length bs ≡ z) xs → InView v n (copy_from v n z xs)
+  copy_from_view : (z : ℕ) (xs : List (List ℕ)) → AllByRecursion (λ bs. length bs ≡ z) xs → InView v n (copy_from v n z xs)
   unfolding copy_from Room
   copy_from_view z xs each =
       let few = take (count v z) xs in

@@ -1,6 +1,6 @@
 -- A program's calls are the calls of a run.
 use Rattle.std.proofs.Common.{◌≡◌, ℕ, List, [], ◌∷◌, map, length, sym, refl, ◌∙◌}
-use Rattle.std.specs.List.{AllByRecursion as All}
+use Rattle.std.specs.List.{AllByRecursion}
 use Rattle.volatile_memory.proofs.LaidBytes.{overlaid_nil}
 use Rattle.mirror.specs.Program.{Begins, AllGoOn, RefusalsStoreNothing, MakesRuns}
 use Rattle.mirror.proofs.FittingCalls.{store_in_view, refused_stores}
@@ -23,7 +23,7 @@ refusals : RefusalsStoreNothing
 refusals c proper memory f refused = refused_stores (store_in_view c memory proper) f refused
 
 -- the bytes of elements of one kind are of one length
-all_sized : {X : Type 0} (size : ℕ) (bytes : X → List ℕ) → ((x : X) → length (bytes x) ≡ size) → (xs : List X) → All (λ bs. length bs ≡ size) (map bytes xs)
+all_sized : {X : Type 0} (size : ℕ) (bytes : X → List ℕ) → ((x : X) → length (bytes x) ≡ size) → (xs : List X) → AllByRecursion (λ bs. length bs ≡ size) (map bytes xs)
 all_sized size bytes each [] = tt
 all_sized size bytes each (x ∷ xs) = (each x, all_sized size bytes each xs)
 

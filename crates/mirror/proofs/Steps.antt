@@ -1,6 +1,6 @@
 -- Each call on a sound state: the state stays sound, and which pages become or stay dirty.
 use Rattle.std.proofs.Common.{◌≡◌, ℕ, suc, ◌+◌, ◌-◌, ◌/◌, ◌^◌, ◌<◌, ◌≤◌, min, Bool, true, false, not, ◌&&◌, ltb, leb, ◌⊎◌, ◌↔◌, List, [], ◌∷◌, length, get_or, sym, refl, ◌∙◌, inl, inr, arith}
-use Rattle.std.specs.List.{remove, AllByRecursion as All}
+use Rattle.std.specs.List.{remove, AllByRecursion}
 use Rattle.std.proofs.lemmas.List.{get_or_append_left, length_push, get_or_past}
 use Rattle.std.proofs.lemmas.List.Edits.{length-remove, get_or-remove_below, get_or-remove_above}
 use Rattle.std.proofs.ByRecursion.{All-get_or, All-push, All-append, All-take, All-drop}
@@ -27,7 +27,7 @@ use Rattle.mirror.proofs.KeptShapes.{kept-length, kept_covers}
 pub record Sound (s : State) : Type 0 where
   pub even : length s.copy ≡ length s.memory
   pub covers : covered s.bitmap s.memory ≡ true
-  pub rooted : All Rooted s.claims
+  pub rooted : AllByRecursion Rooted s.claims
   pub explained : DiffersForAReason s
 
 -- from s to t by a call that took a parcel or did not, and is a reason for some pages

@@ -1,7 +1,7 @@
 -- Numbers written as bytes, one after another, and read back.
 use Rattle.std.proofs.Common.{◌≡◌, ℕ, zero, suc, ◌+◌, ◌*◌, ◌^◌, ◌<◌, List, [], ◌∷◌, ◌++◌, length, get_or, take, drop, sym, refl, ap, ◌∙◌, ap₂, add-zero, arith, drop-drop, drop_at}
-use Rattle.elements.specs.ByteLaws.{unsigned_again}
-use Rattle.elements.specs.LittleEndian.{bytes_of, number_of}
+use Rattle.byte_valued.specs.ByteLaws.{unsigned_again}
+use Rattle.byte_valued.specs.LittleEndian.{bytes_of, number_of}
 use Rattle.volatile_memory.specs.Memory.{part}
 use Rattle.parcel.specs.Parcels.{words, number_at, numbers}
 

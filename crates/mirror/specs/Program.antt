@@ -1,6 +1,6 @@
 -- A program's calls are the calls of a run, since their contracts say what the run says. Assumes nothing.
 use Rattle.std.specs.Prelude.{◌≡◌, ℕ, ◌<◌, true, false, ◌⊎◌, List, [], map, length}
-use Rattle.std.specs.List.{AllByRecursion as All}
+use Rattle.std.specs.List.{AllByRecursion}
 use Rattle.bitmap.specs.Pages.{Meaning, dirty}
 use Rattle.volatile_memory.specs.Faults.{Fault, partial_buffer}
 use Rattle.volatile_memory.specs.Faults.Answer.{refuses}
@@ -48,7 +48,7 @@ RefusalsStoreNothing = (c : Store) → ProperStore c → (memory : List ℕ) (f 
 -- a program's calls are the calls of a run: its views and its elements are such as the law speaks of, a run begins, and it goes on with each call as that call's contract says
 pub record MakesRuns {X : Type 0} (size : ℕ) (bytes : X → List ℕ) : Type 0 where
   pub views : (v : VolatileSlice) → Rooted (span v)
-  pub elements : (xs : List X) → All (λ bs. length bs ≡ size) (map bytes xs)
+  pub elements : (xs : List X) → AllByRecursion (λ bs. length bs ≡ size) (map bytes xs)
   pub begins : Begins
   pub goes_on : AllGoOn
   pub refusals : RefusalsStoreNothing

@@ -1,6 +1,6 @@
 -- Any list of calls on one memory and one bitmap, and which such runs are legal. Assumes nothing.
 use Rattle.std.specs.Prelude.{◌≡◌, ℕ, ◌+◌, ◌^◌, ◌<◌, true, false, List, [], ◌∷◌, ◌++◌, length, slice_index_or}
-use Rattle.std.specs.List.{remove, AllByRecursion as All}
+use Rattle.std.specs.List.{remove, AllByRecursion}
 use Rattle.bitmap.specs.Pages.{Meaning, Paged, dirty, marked}
 use Rattle.volatile_memory.specs.Faults.{Answer}
 use Rattle.volatile_memory.specs.Faults.Answer.{gives, refuses}
@@ -124,7 +124,7 @@ ProperStore (by_write_slice v buf addr) = Rooted v
 ProperStore (by_atomic v bs addr) = Rooted v
 ProperStore (by_reference v bs) = Rooted v
 ProperStore (by_array v z i bs) = Rooted v × (length bs ≡ z)
-ProperStore (by_copy_from v z xs) = Rooted v × All (λ bs. length bs ≡ z) xs
+ProperStore (by_copy_from v z xs) = Rooted v × AllByRecursion (λ bs. length bs ≡ z) xs
 ProperStore (by_copy_within u v) = Rooted v
 ProperStore (by_copy_over u source v) = Rooted v
 

@@ -12,7 +12,7 @@ ghost use Rattle.mirror.specs.Refresh.{refreshes, copy_then, Mirrors};
 ghost use Rattle.mirror.specs.Runs.{Run, Fits};
 
 use bitmap::CleanBitmap;
-use elements::ByteValued;
+use byte_valued::ByteValued;
 use parcel::{Taken, apply, take};
 use volatile_memory::{Error, VolatileRef};
 

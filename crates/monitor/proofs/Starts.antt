@@ -4,7 +4,7 @@ use lib.Seq.{take-append-le}
 use Rattle.std.proofs.lemmas.List.{take_all}
 use Rattle.bitmap.specs.Pages.{clean, ceiling, page_count, top}
 use Rattle.bitmap.proofs.LentStorage.{over_cleared}
-use Rattle.monitor.specs.Marks.{clean-map, clean_log, log_of}
+use Rattle.monitor.specs.Marks.{clean_map, clean_log, log_of}
 use Rattle.monitor.specs.declared.memory.Memory.{Memory}
 
 -- enough bits for every page
@@ -15,7 +15,7 @@ page_count_all size page bits fits room =
     omega arith
 
 module _ (m : Memory) (fits : m.byte_size < 2 ^ 64) where
-  pub map_start : (bits : ℕ) → ceiling m.byte_size m.page_size.value ≤ bits → clean m.page_size.value (page_count m.byte_size m.page_size.value bits) ≡ clean-map m
+  pub map_start : (bits : ℕ) → ceiling m.byte_size m.page_size.value ≤ bits → clean m.page_size.value (page_count m.byte_size m.page_size.value bits) ≡ clean_map m
   map_start bits room = ap (clean m.page_size.value) (page_count_all m.byte_size m.page_size.value bits fits room)
 
   pub log_start : (l : ℕ) → ceiling m.byte_size 4096 ≤ 8 * l → log_of m (replicate l 0) ≡ clean_log m

@@ -22,8 +22,8 @@ how_many p zero = 0
 how_many p (suc n) = how_many p n + cond (p n) 1 0
 
 -- how many pages are dirty
-abbrev pub dirty-count : Meaning → ℕ
-dirty-count b = how_many (dirty b) b.count
+abbrev pub dirty_count : Meaning → ℕ
+dirty_count b = how_many (dirty b) b.count
 
 -- the pages that are dirty in b' and clean in b
 abbrev pub turned : Meaning → Meaning → List ℕ
@@ -54,9 +54,9 @@ told (e ∷ es) = (e.access, spread (vec_items e.turned)) ∷ told es
 
 -- a summary that tells the dirty pages, all pages, and the dirty share
 pub record Sums (b : Meaning) (s : Summary) : Type 0 where
-  pub dirty-pages : s.dirty_pages ≡ dirty-count b
+  pub dirty_pages : s.dirty_pages ≡ dirty_count b
   pub pages : s.pages ≡ b.count
-  pub dirty-share : s.share ≡ share (dirty-count b) b.count
+  pub dirty_share : s.share ≡ share (dirty_count b) b.count
 
 -- for each page, whether it is dirty
 pub record Shows (b : Meaning) (ps : List Bool) : Type 0 where
@@ -64,8 +64,8 @@ pub record Shows (b : Meaning) (ps : List Bool) : Type 0 where
   pub pages : (n : ℕ) → n < b.count → slice_index_or ps n false ≡ dirty b n
 
 -- a memory's pages, and its pages in the log, all clean
-abbrev pub clean-map : Memory → Meaning
-clean-map m = clean m.page_size.value (ceiling m.byte_size m.page_size.value)
+abbrev pub clean_map : Memory → Meaning
+clean_map m = clean m.page_size.value (ceiling m.byte_size m.page_size.value)
 
 abbrev pub clean_log : Memory → Meaning
 clean_log m = clean 4096 (ceiling m.byte_size 4096)
@@ -77,7 +77,7 @@ log_of m bytes = over m.byte_size 4096 8 bytes
 -- an account of all accesses of a trace, from clean pages on
 pub record Accounts (t : Trace) (a : Account) : Type 0 where
   pub memory : a.memory ≡ t.memory
-  pub entries : told (vec_items a.entries) ≡ turns (clean-map t.memory) (vec_items t.accesses)
-  pub pages : Shows (after (clean-map t.memory) (vec_items t.accesses)) (vec_items a.pages)
+  pub entries : told (vec_items a.entries) ≡ turns (clean_map t.memory) (vec_items t.accesses)
+  pub pages : Shows (after (clean_map t.memory) (vec_items t.accesses)) (vec_items a.pages)
   pub log : log_of t.memory (vec_items a.log) ≡ after (clean_log t.memory) (vec_items t.accesses)
-  pub summary : Sums (after (clean-map t.memory) (vec_items t.accesses)) a.summary
+  pub summary : Sums (after (clean_map t.memory) (vec_items t.accesses)) a.summary

@@ -2,7 +2,7 @@
 ghost use Rattle.std.specs.Prelude.{◌≡◌, ℕ, ◌^◌, ◌<◌, ◌≤◌, not, ◌&&◌, [], ◌∷◌, ◌++◌, IfOk, OnOk, nat_le, nat_lt};
 ghost use Rattle.bitmap.specs.Pages.{dirty, reaches};
 ghost use Rattle.bitmap.specs.Tracked.{tracked};
-ghost use Rattle.monitor.specs.Marks.{those, dirty-count, turned as turned-pages, accessed, after, turns, spread, told, Shows, Sums, log_of, clean_log, Accounts};
+ghost use Rattle.monitor.specs.Marks.{those, dirty_count, turned as turned_pages, accessed, after, turns, spread, told, Shows, Sums, log_of, clean_log, Accounts};
 
 use crate::memory::Memory;
 use crate::page_range::PageRange;
@@ -86,7 +86,7 @@ fn mark_all(
 
 // Marks an access, and tells which pages it turned.
 fn mark(heap: Global, map: &mut AtomicBitmap, access: Access) -> Result<Vec<PageRange>, AllocError>
-    ensures turned { IfOk result (λ v. spread v.items ≡ turned-pages (tracked map.old) (tracked map.new)) }
+    ensures turned { IfOk result (λ v. spread v.items ≡ turned_pages (tracked map.old) (tracked map.new)) }
     ensures means { OnOk result (tracked map.new ≡ accessed (tracked map.old) access) }
 {
     let turned = clean_pages(heap, map, access)?;
@@ -173,7 +173,7 @@ impl Summary {
 // How many pages are dirty.
 fn dirty_count(map: &AtomicBitmap) -> u32
     requires { (tracked map.now).count < 2 ^ 32 }
-    ensures { result ≡ dirty-count (tracked map.now) }
+    ensures { result ≡ dirty_count (tracked map.now) }
 {
     let mut dirty = 0u32;
     for page in 0..map.len() {

@@ -2,7 +2,7 @@
 use Rattle.std.proofs.Common.{◌≡◌, ℕ, ◌+◌, ◌-◌, ◌*◌, ◌≤◌, List, [], ◌∷◌, ◌++◌, map, length, take, drop, sym, refl, ap, ◌∙◌, ap₂, inl, inr, arith, length-append, length-drop, length-take}
 use Rattle.std.proofs.lemmas.List.{map_push, take_all}
 use Rattle.std.proofs.lemmas.Bool.{cases_lt}
-use Rattle.elements.specs.LittleEndian.{bytes_of}
+use Rattle.byte_valued.specs.LittleEndian.{bytes_of}
 use Rattle.volatile_memory.specs.Memory.{part, overlaid, joined}
 use Rattle.volatile_memory.proofs.LaidBytes.{overlaid_next, joined_push}
 use Rattle.parcel.specs.Parcels.{page_length, words, head, bodies, parcel, sum_of}

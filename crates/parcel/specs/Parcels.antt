@@ -1,6 +1,6 @@
 -- Parcels: the dirty pages of a memory as bytes, and those bytes laid into a copy. Assumes nothing.
 use Rattle.std.specs.Prelude.{ℕ, zero, suc, ◌+◌, ◌-◌, ◌*◌, min, Bool, false, cond, not, ◌&&◌, ◌||◌, List, [], ◌∷◌, ◌++◌, map, length, take, drop, ◌==◌, nat_le, nat_lt}
-use Rattle.elements.specs.LittleEndian.{bytes_of, number_of}
+use Rattle.byte_valued.specs.LittleEndian.{bytes_of, number_of}
 use Rattle.bitmap.specs.Pages.{Meaning, top, ceiling, dirty, with_bits}
 use Rattle.volatile_memory.specs.Faults.{Answer, uncovered, no_room, bad_parcel}
 use Rattle.volatile_memory.specs.Faults.Answer.{gives, refuses}

@@ -1,10 +1,10 @@
 //! Numbers of 8 bytes, and bytes laid into a buffer.
 ghost use Rattle.std.specs.Prelude.{◌≡◌, ◌+◌, ◌*◌, ◌≤◌, length};
-ghost use Rattle.elements.specs.LittleEndian.{bytes_of};
+ghost use Rattle.byte_valued.specs.LittleEndian.{bytes_of};
 ghost use Rattle.volatile_memory.specs.Memory.{overlaid};
 ghost use Rattle.parcel.specs.Parcels.{number_at};
 
-use elements::ByteValued;
+use byte_valued::ByteValued;
 
 // Number `i` of a parcel's numbers.
 pub(crate) fn number_at(parcel: &[u8], i: usize) -> usize

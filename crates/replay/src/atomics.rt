@@ -4,7 +4,7 @@ use crate::fault::Fault;
 use crate::outcome::Outcome;
 use crate::value::Element;
 use bitmap::AtomicBitmap;
-use elements::AtomicAccess;
+use byte_valued::AtomicAccess;
 use script::{AtomicCall, Kind, Value};
 use volatile_memory::VolatileSlice;
 

@@ -3,7 +3,7 @@ use crate::fault::Fault;
 use crate::outcome::Outcome;
 use crate::value::Element;
 use bitmap::AtomicBitmap;
-use elements::LineHead;
+use byte_valued::LineHead;
 use mirror::refresh;
 use parcel::Taken;
 use script::{ElementCall, Kind, Value};
@@ -194,7 +194,7 @@ fn copy_from<T: Element>(
     map: &mut AtomicBitmap,
     values: &[Value],
 ) -> Result<Outcome, Fault> {
-    let buf = elements::<T>(heap, values)?;
+    let buf = byte_valued::<T>(heap, values)?;
     Ok(done(view.copy_from(memory, map, buf.as_slice())))
 }
 
@@ -257,7 +257,7 @@ fn array_from<T: Element>(
     map: &mut AtomicBitmap,
     values: &[Value],
 ) -> Result<Outcome, Fault> {
-    let buf = elements::<T>(heap, values)?;
+    let buf = byte_valued::<T>(heap, values)?;
     match array_of::<T>(view) {
         Ok(array) => Ok(done(array.copy_from(memory, map, buf.as_slice()))),
         Err(error) => Ok(Outcome::Refused(error)),

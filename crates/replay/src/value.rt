@@ -1,5 +1,5 @@
 //! Values of elements, as a script writes them.
-use elements::{ByteValued, LineHead};
+use byte_valued::{ByteValued, LineHead};
 use script::Value;
 use std::fmt;
 

@@ -1,7 +1,7 @@
 //! What the lines of a script ask for.
 use crate::kind::Kind;
 use bitmap::PageSize;
-use elements::LineHead;
+use byte_valued::LineHead;
 
 /// A value of some kind of element.
 #[derive(Clone, Copy)]

@@ -6,7 +6,7 @@ use crate::command::Value;
 use crate::fault::{Complaint, Fault, MOST_READ, faulty};
 use crate::kind::Kind;
 use crate::word::Word;
-use elements::LineHead;
+use byte_valued::LineHead;
 use std::alloc::Global;
 use text::number;
 

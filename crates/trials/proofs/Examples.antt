@@ -2,7 +2,7 @@
 use Rattle.std.proofs.Common.{◌≡◌, ℕ, zero, suc, ◌/◌, ◌%◌, ◌<◌, Bool, ◌&&◌, ◌||◌, eqb, List, [], ◌∷◌, length, get_or, take, sym, refl, ap, ◌∙◌, arith, lit<, length-take}
 use Rattle.std.proofs.ByRecursion.{All-from_get_or, All-take}
 use Rattle.std.proofs.lemmas.Bool.Decides.{nat_tests}
-use Rattle.std.specs.List.{AllByRecursion as All}
+use Rattle.std.specs.List.{AllByRecursion}
 use Rattle.bitmap.specs.Pages.{top, spans, dirty, assigned, marked}
 use Rattle.bitmap.specs.Tracked.{over}
 use Rattle.bitmap.specs.Storage.{bit_of, bit_at, stored}
@@ -33,7 +33,7 @@ example_bits : (n : ℕ) → stored bit_of 8 (1 ∷ 2 ∷ []) n ≡ (eqb n 0 || 
 unfolding stored
 example_bits n = rw (example_bit (n / 8) (n % 8)) (grind (arith, nat_tests))
 
-log_bytes : (log : List ℕ) → All (λ b. b < 256) log → length log ≡ 2 → ((n : ℕ) → stored bit_of 8 log n ≡ (eqb n 0 || eqb n 9)) → log ≡ 1 ∷ 2 ∷ []
+log_bytes : (log : List ℕ) → AllByRecursion (λ b. b < 256) log → length log ≡ 2 → ((n : ℕ) → stored bit_of 8 log n ≡ (eqb n 0 || eqb n 9)) → log ≡ 1 ∷ 2 ∷ []
 log_bytes log fits two bits = same_words 8 (lit< tt) log (1 ∷ 2 ∷ []) fits (lit< tt, (lit< tt, tt)) two (λ n. bits n ∙ sym (example_bits n))
 
 -- ten clear pages with two of them marked
@@ -79,7 +79,7 @@ module _ (buf : List ℕ) (five : length buf ≡ 5) where
   unfolding write_slice write
   dirties_the_last_page bit n = pages_of (write_slice whole 10000 buf 9998) 9998 2 bit n (rw two_fit) (rw two_fit two_taken) ∙ page_two bit n
 
-module _ (heads : List (List ℕ)) (nine : length heads ≡ 9) (each : All (λ h. length h ≡ 12) heads) where
+module _ (heads : List (List ℕ)) (nine : length heads ≡ 9) (each : AllByRecursion (λ h. length h ≡ 12) heads) where
   eight_heads : length (copy_from (view 4080 100) 10000 12 heads).bytes ≡ 96
   unfolding copy_from
   eight_heads = length_pieces 12 (take 8 heads) (All-take _ 8 heads each) ∙ rw eight

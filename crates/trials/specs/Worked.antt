@@ -1,6 +1,6 @@
 -- Worked examples, as a theorem of the definitions that the contracts cite. Assumes nothing.
 use Rattle.std.specs.Prelude.{◌≡◌, ℕ, ◌^◌, ◌<◌, Bool, ◌||◌, List, [], ◌∷◌, length, ◌==◌}
-use Rattle.std.specs.List.{AllByRecursion as All}
+use Rattle.std.specs.List.{AllByRecursion}
 use Rattle.bitmap.specs.Pages.{Meaning, top, dirty, marked}
 use Rattle.bitmap.specs.Storage.{bit_of, stored}
 use Rattle.volatile_memory.specs.Calls.{Done, write, write_slice, store, copy_from}
@@ -29,7 +29,7 @@ pub record WorkedBitmaps : Type 0 where
   -- and the end does not: two bytes from 0 on end at the top
   pub end_stops : (bit : ℕ → Bool) (n : ℕ) → dirty (marked (three_pages top bit) 0 2) n ≡ dirty (three_pages top bit) n
   -- a log that is clear but for pages 0 and 9
-  pub log_bytes : (log : List ℕ) → All (λ b. b < 256) log → length log ≡ 2 → ((n : ℕ) → stored bit_of 8 log n ≡ (n == 0 || n == 9)) → log ≡ 1 ∷ 2 ∷ []
+  pub log_bytes : (log : List ℕ) → AllByRecursion (λ b. b < 256) log → length log ≡ 2 → ((n : ℕ) → stored bit_of 8 log n ≡ (n == 0 || n == 9)) → log ≡ 1 ∷ 2 ∷ []
 
 -- cuts of the root
 pub record WorkedCuts : Type 0 where
@@ -48,8 +48,8 @@ pub record WorkedCalls : Type 0 where
   pub five_at_the_end : (buf : List ℕ) → length buf ≡ 5 → (write_slice whole 10000 buf 9998).answer ≡ refuses (partial_buffer 5 2)
   pub dirties_the_last_page : (buf : List ℕ) (bit : ℕ → Bool) (n : ℕ) → length buf ≡ 5 → marks (write_slice whole 10000 buf 9998) bit n ≡ (n == 2 || dirty (three_pages 0 bit) n)
   -- nine line heads on the hundred bytes from 4080 on: eight fit
-  pub eight_heads : (heads : List (List ℕ)) → length heads ≡ 9 → All (λ h. length h ≡ 12) heads → length (copy_from (view 4080 100) 10000 12 heads).bytes ≡ 96
-  pub heads_dirty_two_pages : (heads : List (List ℕ)) (bit : ℕ → Bool) (n : ℕ) → length heads ≡ 9 → All (λ h. length h ≡ 12) heads → marks (copy_from (view 4080 100) 10000 12 heads) bit n ≡ (n == 0 || (n == 1 || dirty (three_pages 0 bit) n))
+  pub eight_heads : (heads : List (List ℕ)) → length heads ≡ 9 → AllByRecursion (λ h. length h ≡ 12) heads → length (copy_from (view 4080 100) 10000 12 heads).bytes ≡ 96
+  pub heads_dirty_two_pages : (heads : List (List ℕ)) (bit : ℕ → Bool) (n : ℕ) → length heads ≡ 9 → AllByRecursion (λ h. length h ≡ 12) heads → marks (copy_from (view 4080 100) 10000 12 heads) bit n ≡ (n == 0 || (n == 1 || dirty (three_pages 0 bit) n))
   pub not_aligned : (bytes : List ℕ) → length bytes ≡ 4 → (store whole 10000 bytes 2).answer ≡ refuses (misaligned 4098 4)
   pub store_outside : (bytes : List ℕ) → length bytes ≡ 4 → (store whole 10000 bytes 9998).answer ≡ refuses (out_of_bounds 10002)
 

@@ -1,6 +1,6 @@
 //! Examples run: expected values come from the definitions of the formats, or from runs of vm-memory 0.18.0.
 use bitmap::{AtomicBitmap, BaseSlice, Bitmap, ByteLog, CleanBitmap, PageSize, dirty_share};
-use elements::{AtomicAccess, ByteValued, LineHead};
+use byte_valued::{AtomicAccess, ByteValued, LineHead};
 use std::test::Fail;
 
 // The dirty pages of a bitmap as the bits of a number, page 0 the lowest.

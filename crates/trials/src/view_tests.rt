@@ -1,6 +1,6 @@
 //! Views of a root of 10,000 bytes at the address 4096, with three pages of 4096.
 use bitmap::{AtomicBitmap, PageSize};
-use elements::LineHead;
+use byte_valued::LineHead;
 use std::alloc::{AllocError, Global};
 use std::test::Fail;
 use volatile_memory::{Error, VolatileArrayRef, VolatileRef, VolatileSlice};

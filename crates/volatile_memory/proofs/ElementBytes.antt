@@ -2,7 +2,7 @@
 use Rattle.std.proofs.Common.{◌≡◌, ℕ, ◌+◌, ◌-◌, ◌≤◌, eqb, List, ◌++◌, length, take, drop, Some, sym, ap, ◌∙◌, inl, inr, append-nil, arith}
 use Rattle.std.proofs.lemmas.List.{drop_all, take_at}
 use Rattle.std.proofs.lemmas.Bool.{cases_Bool, cond-true, cond-false, le-leb}
-use Rattle.elements.specs.Buffers.{laid, made_of}
+use Rattle.byte_valued.specs.Buffers.{laid, made_of}
 use Rattle.volatile_memory.specs.Calls.{only, lays, unless_refused}
 use Rattle.volatile_memory.specs.Faults.{Fault, Answer}
 use Rattle.volatile_memory.specs.Faults.Answer.{gives, refuses}

@@ -3,7 +3,7 @@ use Rattle.std.proofs.Common.{◌≡◌, ℕ, ◌+◌, ◌-◌, ◌*◌, ◌<◌
 use borrow.Rule.Slice.PartMut.{put_mid}
 use Rattle.std.proofs.lemmas.List.{drop-drop, take-append-drop, take_at, drop_at, take_all, take-map, map_more}
 use Rattle.std.proofs.lemmas.Bool.{cases_lt}
-use Rattle.std.specs.List.{AllByRecursion as All}
+use Rattle.std.specs.List.{AllByRecursion}
 use Rattle.volatile_memory.specs.Memory.{part, overlaid, joined}
 
 -- nothing laid is nothing changed
@@ -75,6 +75,6 @@ pub pieces : {X : Type 0} (f : X → List ℕ) (xs : List X) (n k : ℕ) → k �
 pieces f xs n k is = ap (λ ys. joined (map f ys)) (take_capped xs n k is) ∙ ap joined (sym (take-map f n xs))
 
 -- pieces that are each z bytes long
-pub length_pieces : (z : ℕ) (xss : List (List ℕ)) → All (λ xs. length xs ≡ z) xss → length (joined xss) ≡ length xss * z
+pub length_pieces : (z : ℕ) (xss : List (List ℕ)) → AllByRecursion (λ xs. length xs ≡ z) xss → length (joined xss) ≡ length xss * z
 length_pieces z [] each = sym (zero-mul z)
 length_pieces z (xs ∷ xss) (one, more) = length-append xs (joined xss) ∙ rw (one, length_pieces z xss more) (omega (arith, suc-mul (length xss) z))

@@ -1,6 +1,6 @@
 //! A view of elements in a row.
 use crate::VolatileSlice;
-use elements::ByteValued;
+use byte_valued::ByteValued;
 
 mod access;
 mod copies;

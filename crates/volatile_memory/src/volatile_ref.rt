@@ -1,6 +1,6 @@
 //! A view of one element.
 use crate::VolatileSlice;
-use elements::ByteValued;
+use byte_valued::ByteValued;
 
 mod access;
 mod cuts;

@@ -8,7 +8,7 @@ ghost use Rattle.volatile_memory.specs.Spans.{span};
 use super::VolatileArrayRef;
 use crate::Error;
 use bitmap::Bitmap;
-use elements::ByteValued;
+use byte_valued::ByteValued;
 
 impl<T: ByteValued> VolatileArrayRef<T> {
     // Where element `index` starts in the array. Refuses a memory of `length` bytes in which the array does not lie, and an element that it does not have.

@@ -7,7 +7,7 @@ ghost use Rattle.volatile_memory.specs.Spans.{span};
 use super::VolatileArrayRef;
 use crate::{Error, VolatileSlice};
 use bitmap::Bitmap;
-use elements::ByteValued;
+use byte_valued::ByteValued;
 
 impl<T: ByteValued> VolatileArrayRef<T> {
     // The view of the elements alone.

@@ -5,7 +5,7 @@ ghost use Rattle.volatile_memory.specs.Spans.{span, count, cut_element};
 
 use super::VolatileArrayRef;
 use crate::{Error, VolatileRef, VolatileSlice};
-use elements::ByteValued;
+use byte_valued::ByteValued;
 
 impl<T: ByteValued> VolatileArrayRef<T> {
     /// How many elements it has.

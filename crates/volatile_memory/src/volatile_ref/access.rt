@@ -8,7 +8,7 @@ ghost use Rattle.volatile_memory.specs.Spans.{span};
 use super::VolatileRef;
 use crate::Error;
 use bitmap::Bitmap;
-use elements::ByteValued;
+use byte_valued::ByteValued;
 
 impl<T: ByteValued> VolatileRef<T> {
     // Refuses a memory of `length` bytes in which the element does not lie.

@@ -4,7 +4,7 @@ ghost use Rattle.volatile_memory.specs.Spans.{span};
 
 use super::VolatileRef;
 use crate::VolatileSlice;
-use elements::ByteValued;
+use byte_valued::ByteValued;
 
 impl<T: ByteValued> VolatileRef<T> {
     /// How many bytes the element has.

@@ -9,7 +9,7 @@ use super::VolatileSlice;
 use crate::Error;
 use crate::moves::move_bytes;
 use bitmap::Bitmap;
-use elements::ByteValued;
+use byte_valued::ByteValued;
 
 impl VolatileSlice {
     // Refuses a memory of `length` bytes in which the view does not lie.

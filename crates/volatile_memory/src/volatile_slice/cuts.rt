@@ -5,7 +5,7 @@ ghost use Rattle.volatile_memory.specs.Spans.{span, root, end_offset, sub, cut, 
 
 use super::VolatileSlice;
 use crate::{Error, VolatileArrayRef, VolatileRef};
-use elements::ByteValued;
+use byte_valued::ByteValued;
 
 // As many bytes as an array may have: 2^63 - 1.
 const MAX_ARRAY: usize = 0x7fff_ffff_ffff_ffff;

@@ -9,7 +9,7 @@ ghost use Rattle.volatile_memory.specs.Spans.{span};
 use super::VolatileSlice;
 use crate::Error;
 use bitmap::Bitmap;
-use elements::{AtomicAccess, ByteValued};
+use byte_valued::{AtomicAccess, ByteValued};
 
 // As many bytes as an element can have.
 const MAX_ELEMENT: usize = 64;

@@ -1,5 +1,5 @@
 use Rattle.std.proofs.Common.{◌*◌, refl}
-use Rattle.elements.specs.LittleEndian.{number_of}
+use Rattle.byte_valued.specs.LittleEndian.{number_of}
 use Rattle.volatile_memory.proofs.ElementBytes.{loaded}
 use Rattle.parcel.proofs.numbers.number_at.Goals as goal
 

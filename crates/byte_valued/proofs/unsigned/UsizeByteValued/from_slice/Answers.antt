@@ -1,6 +1,6 @@
 use Rattle.std.proofs.Common.{◌≡◌, length, arith, rules}
-use Rattle.elements.specs.ByteLaws.{made_whole}
-use Rattle.elements.proofs.unsigned.UsizeByteValued.from_slice.Goals as goal
+use Rattle.byte_valued.specs.ByteLaws.{made_whole}
+use Rattle.byte_valued.proofs.unsigned.UsizeByteValued.from_slice.Goals as goal
 
 pub returns-in-len8 : goal.returns-in-len8
 returns-in-len8 c =

@@ -2,8 +2,8 @@
 #![tactic(auto)]
 
 ghost use Rattle.std.specs.Prelude.{◌≡◌, ℕ, ◌<◌, ◌≤◌, List, length, replicate, is_some, IfSome};
-ghost use Rattle.elements.specs.LittleEndian.{Bytes};
-ghost use Rattle.elements.specs.Buffers.{has_room, laid, made_of};
+ghost use Rattle.byte_valued.specs.LittleEndian.{Bytes};
+ghost use Rattle.byte_valued.specs.Buffers.{has_room, laid, made_of};
 
 mod line_head;
 mod signed;

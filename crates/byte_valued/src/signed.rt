@@ -1,6 +1,6 @@
 //! Signed integers, in two's complement.
-ghost use Rattle.elements.specs.LittleEndian.{bytes_of, number_of, complement, signed_of, Signed};
-ghost use Rattle.elements.specs.ByteLaws.{signed_exact, signed_again, signed_back};
+ghost use Rattle.byte_valued.specs.LittleEndian.{bytes_of, number_of, complement, signed_of, Signed};
+ghost use Rattle.byte_valued.specs.ByteLaws.{signed_exact, signed_again, signed_back};
 ghost use Rattle.std.proofs.Common.{lit<, rules};
 
 use crate::{AtomicAccess, ByteValued};

@@ -1,6 +1,6 @@
 -- Numbers as bytes, the least significant first, and two's complement. Assumes nothing.
 use Rattle.std.specs.Prelude.{ℕ, zero, suc, ◌+◌, ◌-◌, ◌*◌, ◌/◌, ◌%◌, ◌^◌, ◌<◌, cond, List, [], ◌∷◌, ℤ, pos, negsuc, nat_lt}
-use Rattle.std.specs.List.{AllByRecursion as All}
+use Rattle.std.specs.List.{AllByRecursion}
 
 -- the z low bytes of a number
 abbrev pub bytes_of : ℕ → ℕ → List ℕ
@@ -32,4 +32,4 @@ Signed z (negsuc n) = n < 256 ^ z / 2
 
 -- each is a byte
 abbrev pub Bytes : List ℕ → Type 0
-Bytes bs = All (λ b. b < 256) bs
+Bytes bs = AllByRecursion (λ b. b < 256) bs

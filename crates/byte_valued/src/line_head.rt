@@ -1,8 +1,8 @@
 //! The head of a line on a register's leaf.
-ghost use Rattle.elements.specs.Heads.{head_bytes, head_value, Head};
-ghost use Rattle.elements.specs.ByteLaws.{unsigned_again, unsigned_part};
+ghost use Rattle.byte_valued.specs.Heads.{head_bytes, head_value, Head};
+ghost use Rattle.byte_valued.specs.ByteLaws.{unsigned_again, unsigned_part};
 ghost use Rattle.std.proofs.Common.{arith, rules};
-ghost use Rattle.elements.specs.LineHeadByteValuedLemmas.{parts};
+ghost use Rattle.byte_valued.specs.LineHeadByteValuedLemmas.{parts};
 
 use crate::{ByteValued, lay};
 

@@ -1,6 +1,6 @@
 //! Unsigned integers, the least significant byte first.
-ghost use Rattle.elements.specs.LittleEndian.{bytes_of, number_of, Unsigned};
-ghost use Rattle.elements.specs.ByteLaws.{unsigned_exact, unsigned_again, unsigned_back};
+ghost use Rattle.byte_valued.specs.LittleEndian.{bytes_of, number_of, Unsigned};
+ghost use Rattle.byte_valued.specs.ByteLaws.{unsigned_exact, unsigned_again, unsigned_back};
 ghost use Rattle.std.proofs.Common.{rules};
 
 use crate::{AtomicAccess, ByteValued, lay};

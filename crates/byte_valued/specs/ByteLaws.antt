@@ -5,8 +5,8 @@ use Rattle.std.proofs.ByRecursion.{All-take, All-drop}
 use Rattle.std.proofs.lemmas.List.{drop_all, drop_more}
 use Rattle.std.proofs.lemmas.Bool.{cases_Bool}
 use Rattle.std.proofs.lemmas.Bool.Decides.{nat_tests}
-use Rattle.elements.specs.Buffers.{made_of}
-use Rattle.elements.specs.LittleEndian.{bytes_of, number_of, complement, signed_of, Unsigned, Signed, Bytes}
+use Rattle.byte_valued.specs.Buffers.{made_of}
+use Rattle.byte_valued.specs.LittleEndian.{bytes_of, number_of, complement, signed_of, Unsigned, Signed, Bytes}
 
 length-bytes_of : (z n : ℕ) → length (bytes_of z n) ≡ z
 length-bytes_of zero n = refl

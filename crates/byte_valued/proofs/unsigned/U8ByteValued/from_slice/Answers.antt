@@ -1,6 +1,6 @@
 use Rattle.std.proofs.Common.{◌≡◌, length, arith, rules}
-use Rattle.elements.specs.ByteLaws.{made_whole}
-use Rattle.elements.proofs.unsigned.U8ByteValued.from_slice.Goals as goal
+use Rattle.byte_valued.specs.ByteLaws.{made_whole}
+use Rattle.byte_valued.proofs.unsigned.U8ByteValued.from_slice.Goals as goal
 
 pub returns-in-len1 : goal.returns-in-len1
 returns-in-len1 c =

@@ -1,7 +1,7 @@
 -- A line's head as twelve bytes. Assumes nothing.
 use Rattle.std.specs.Prelude.{ℕ, List, ◌++◌, take, drop}
-use Rattle.elements.specs.LittleEndian.{bytes_of, number_of, Unsigned}
-use Rattle.elements.specs.declared.line_head.LineHead.{LineHead}
+use Rattle.byte_valued.specs.LittleEndian.{bytes_of, number_of, Unsigned}
+use Rattle.byte_valued.specs.declared.line_head.LineHead.{LineHead}
 
 abbrev pub head_bytes : LineHead → List ℕ
 head_bytes h = bytes_of 4 h.register ++ (bytes_of 2 h.leaf ++ (bytes_of 2 h.line ++ (bytes_of 2 h.left ++ bytes_of 2 h.width)))
