@@ -13,7 +13,7 @@ for folder, dirs, names in os.walk("crates"):
         if n.endswith((".antt", ".rt", ".edit")):
             path = os.path.join(folder, n)
             text = open(path, encoding="utf-8").read()
-            turned = re.sub(rf"\bRattle\.{old}\.", f"Rattle.{new}.", re.sub(rf"\b{old}::", f"{new}::", text))
+            turned = re.sub(rf"\bRattle\.{old}\.", f"Rattle.{new}.", re.sub(rf"(?<!::)\b{old}::", f"{new}::", text))
             if turned != text:
                 open(path, "w", encoding="utf-8").write(turned)
 with open("crates.txt", encoding="utf-8") as f:

@@ -128,7 +128,7 @@ fn reached(map: &AtomicBitmap, access: Access) -> (usize, usize)
 }
 
 // Adds a page behind the others.
-fn add_page(ranges: &mut Vec<PageRange>, page: usize) -> Result<(), AllocError>
+pub(crate) fn add_page(ranges: &mut Vec<PageRange>, page: usize) -> Result<(), AllocError>
     ensures { OnOk result (spread ranges.new.items ≡ spread ranges.old.items ++ (page ∷ [])) }
 {
     if let Some(range) = ranges.last_mut() {
@@ -274,7 +274,10 @@ impl fmt::Display for Entry {
     }
 }
 
-fn write_ranges<W: fmt::Write>(f: &mut fmt::Formatter<W>, ranges: &[PageRange]) -> fmt::Result {
+pub(crate) fn write_ranges<W: fmt::Write>(
+    f: &mut fmt::Formatter<W>,
+    ranges: &[PageRange],
+) -> fmt::Result {
     for (index, range) in ranges.iter().enumerate() {
         let comma = if index == 0 { "" } else { "," };
         write!(f, "{comma} {range}")?;

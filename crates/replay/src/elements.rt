@@ -194,7 +194,7 @@ fn copy_from<T: Element>(
     map: &mut AtomicBitmap,
     values: &[Value],
 ) -> Result<Outcome, Fault> {
-    let buf = byte_valued::<T>(heap, values)?;
+    let buf = elements::<T>(heap, values)?;
     Ok(done(view.copy_from(memory, map, buf.as_slice())))
 }
 
@@ -257,7 +257,7 @@ fn array_from<T: Element>(
     map: &mut AtomicBitmap,
     values: &[Value],
 ) -> Result<Outcome, Fault> {
-    let buf = byte_valued::<T>(heap, values)?;
+    let buf = elements::<T>(heap, values)?;
     match array_of::<T>(view) {
         Ok(array) => Ok(done(array.copy_from(memory, map, buf.as_slice()))),
         Err(error) => Ok(Outcome::Refused(error)),
