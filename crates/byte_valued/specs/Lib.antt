@@ -2,4 +2,4 @@ pub mod LittleEndian
 pub mod Buffers
 pub mod Heads
 pub mod ByteLaws
-pub mod LineHeadByteValuedLemmas
+pub mod HeadLaws

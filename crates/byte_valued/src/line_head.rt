@@ -2,7 +2,7 @@
 ghost use Rattle.byte_valued.specs.Heads.{head_bytes, head_value, Head};
 ghost use Rattle.byte_valued.specs.ByteLaws.{unsigned_again, unsigned_part};
 ghost use Rattle.std.proofs.Common.{arith, rules};
-ghost use Rattle.byte_valued.specs.LineHeadByteValuedLemmas.{parts};
+ghost use Rattle.byte_valued.specs.HeadLaws.{parts};
 
 use crate::{ByteValued, lay};
 

@@ -1,3 +1,4 @@
+-- A line's head and its twelve bytes: the bytes are those of its parts.
 use Rattle.std.specs.Prelude.{◌≡◌, ℕ, ◌+◌, List, ◌++◌, length, take, drop}
 use Rattle.std.proofs.Common.{arith, take-append-drop, length-drop}
 use Rattle.std.proofs.lemmas.List.{drop-drop, take_all}
