@@ -89,7 +89,7 @@ def made(root):
 
 
 def snake(word):
-    return re.sub(r"(?<=[a-z])([A-Z])", lambda m: "_" + m[1].lower(), word)
+    return re.sub(r"(?<=[a-z])([A-Z])", lambda m: "_" + m[1].lower(), word.replace("getD", "get_or"))
 
 
 def camel(name):

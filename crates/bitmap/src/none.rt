@@ -1,5 +1,5 @@
 //! The bitmap of no pages, for a memory that nobody tracks.
-ghost use Rattle.std.specs.Prelude.{◌≡◌, []};
+ghost use Rattle.std.specs.Prelude.{[]};
 ghost use Rattle.std.proofs.Common.{arith};
 ghost use Rattle.bitmap.specs.Pages.{clean};
 

@@ -9,7 +9,7 @@ use Rattle.parcel.specs.Parcels.{dirty_below, pages, words, head, bodies, parcel
 use Rattle.parcel.proofs.WrittenPages.{length-words, length-parcel}
 use Rattle.mirror.proofs.WrittenNumbers.{Small, number_at_words, Written, written, numbers_written}
 use Rattle.mirror.proofs.DirtyList.{Chain, dirty_chain, chain_count, dirty_has}
-use Rattle.mirror.proofs.RefreshedPages.{byte_on_page, refreshed, length_refreshed, get_d_refreshed}
+use Rattle.mirror.proofs.RefreshedPages.{byte_on_page, refreshed, length_refreshed, get_or_refreshed}
 
 wrong_from_passes : (bs qs : List ℕ) (n low i : ℕ) → Written bs i qs → Chain low n qs → wrong_from bs n low i (length qs) ≡ gives 0
 wrong_from_passes bs [] n low i w c = refl
@@ -76,7 +76,7 @@ parcel-refreshes p memory copy d paged page_small even small =
       accepted = parcel-accepted p memory qs paged page_small small chain copy even;
       long = length_refreshed p memory paged copy 0 qs even chain;
       bytes = λ x below.
-          let at = get_d_refreshed p memory paged copy 0 qs x even chain below in
+          let at = get_or_refreshed p memory paged copy 0 qs x even chain below in
           let page = byte_on_page (length memory) p x paged below in
           let known = dirty_has d (pages (length memory) p) (x / p) in
           grind (arith, nat_tests);

@@ -8,7 +8,7 @@ use Rattle.volatile_memory.specs.Memory.{part, overlaid}
 use Rattle.parcel.specs.Parcels.{pages, bodies, page_length, laid_pages}
 use Rattle.parcel.proofs.PagePlaces.{page_begins}
 use Rattle.parcel.proofs.WrittenPages.{length_page}
-use Rattle.mirror.proofs.BytePlaces.{get_d_part, length-overlaid, get_d_overlaid}
+use Rattle.mirror.proofs.BytePlaces.{get_or_part, length-overlaid, get_or_overlaid}
 use Rattle.mirror.proofs.DirtyList.{Chain, has}
 
 -- each of n bytes lies on one of their pages
@@ -44,13 +44,13 @@ module _ (p : ℕ) (memory : List ℕ) (paged : 0 < p) where
   length_with_page copy q even begins =
       let long = length_page memory p q in even ∙ sym (length-overlaid copy (part memory (q * p) p) (q * p) (omega arith))
 
-  get_d_with_page : (copy : List ℕ) (q x : ℕ) → length memory ≡ length copy → q * p < length memory → x < length memory
+  get_or_with_page : (copy : List ℕ) (q x : ℕ) → length memory ≡ length copy → q * p < length memory → x < length memory
       → get_or (with_page p memory copy q) x 0 ≡ cond (eqb (x / p) q) (get_or memory x 0) (get_or copy x 0)
-  get_d_with_page copy q x even begins below =
+  get_or_with_page copy q x even begins below =
       let long = length_page memory p q in
-      let laid = get_d_overlaid copy (part memory (q * p) p) (q * p) (omega arith) x in
+      let laid = get_or_overlaid copy (part memory (q * p) p) (q * p) (omega arith) x in
       let on = on_page p q x paged in
-      grind (arith, nat_tests, get_d_part)
+      grind (arith, nat_tests, get_or_part)
 
   pub length_refreshed : (copy : List ℕ) (low : ℕ) (qs : List ℕ) → length memory ≡ length copy → Chain low (pages (length memory) p) qs → length (refreshed p memory copy qs) ≡ length memory
   length_refreshed copy low [] even chain = sym even
@@ -58,11 +58,11 @@ module _ (p : ℕ) (memory : List ℕ) (paged : 0 < p) where
       let long = length_with_page copy q even (page_begins _ p q paged chain.1) in
       ap length (laid_first p memory copy q qs even) ∙ length_refreshed (with_page p memory copy q) (q + 1) qs long chain.2
 
-  pub get_d_refreshed : (copy : List ℕ) (low : ℕ) (qs : List ℕ) (x : ℕ) → length memory ≡ length copy → Chain low (pages (length memory) p) qs → x < length memory
+  pub get_or_refreshed : (copy : List ℕ) (low : ℕ) (qs : List ℕ) (x : ℕ) → length memory ≡ length copy → Chain low (pages (length memory) p) qs → x < length memory
       → get_or (refreshed p memory copy qs) x 0 ≡ cond (has (x / p) qs) (get_or memory x 0) (get_or copy x 0)
-  get_d_refreshed copy low [] x even chain below = refl
-  get_d_refreshed copy low (q ∷ qs) x even chain below =
+  get_or_refreshed copy low [] x even chain below = refl
+  get_or_refreshed copy low (q ∷ qs) x even chain below =
       let begins = page_begins (length memory) p q paged chain.1 in
-      let later = get_d_refreshed (with_page p memory copy q) (q + 1) qs x (length_with_page copy q even begins) chain.2 below in
-      let here = get_d_with_page copy q x even begins below in
+      let later = get_or_refreshed (with_page p memory copy q) (q + 1) qs x (length_with_page copy q even begins) chain.2 below in
+      let here = get_or_with_page copy q x even begins below in
       ap (λ bs. get_or bs x 0) (laid_first p memory copy q qs even) ∙ grind (arith, nat_tests)

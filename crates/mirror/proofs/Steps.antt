@@ -16,7 +16,7 @@ use Rattle.parcel.specs.Parcels.{pages, covered, due, taken, swept}
 use Rattle.mirror.specs.Runs.{Store, Call, State, claim, does, lays_down, after, Rooted, ProperStore, Proper, Fits}
 use Rattle.mirror.specs.Runs.Call.{stores, opens, puts, settles, takes}
 use Rattle.mirror.specs.Mirror.{HasPage, Inside, On, Reason, took, Claimed, DiffersForAReason}
-use Rattle.mirror.proofs.BytePlaces.{get_d_overlaid}
+use Rattle.mirror.proofs.BytePlaces.{get_or_overlaid}
 use Rattle.mirror.proofs.RefreshedPages.{byte_on_page}
 use Rattle.mirror.proofs.AppliedParcel.{Refreshed, parcel-refreshes}
 use Rattle.mirror.proofs.MarkedPages.{marked_more, marked-dirty}
@@ -78,7 +78,7 @@ module _ (s : State) (sound : Sound s) (fits : Fits s.memory s.bitmap) where
       → ((x : ℕ) → dirty s.bitmap (x / s.bitmap.page) ≡ true → dirty b (x / b.page) ≡ true)
       → DiffersForAReason (laid s d b)
   explained_laid d b inside new still x differ =
-      let at = get_d_overlaid s.memory d.bytes d.place inside x in
+      let at = get_or_overlaid s.memory d.bytes d.place inside x in
       elim (cases_Bool (leb d.place x && ltb x (d.place + length d.bytes))) [
         | inl among ↦ new x (grind (arith, nat_tests)) (grind (arith, nat_tests), grind (arith, nat_tests))
         | inr beside ↦ elim (sound.explained x (λ e. differ (at ∙ cond-false _ _ _ beside ∙ e))) [ inl known ↦ inl (still x known) | inr claimed ↦ inr claimed ]

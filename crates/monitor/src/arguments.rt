@@ -25,7 +25,7 @@ pub(crate) enum Command {
 }
 
 /// Arguments that the program does not take.
-#[derive(Drop)]
+#[derive(Debug, Drop)]
 pub(crate) enum UsageError {
     NoCommand,
     UnknownCommand(String),
@@ -35,12 +35,6 @@ pub(crate) enum UsageError {
 }
 
 impl Error for UsageError {}
-
-impl fmt::Debug for UsageError {
-    fn fmt<W: fmt::Write>(&self, f: &mut fmt::Formatter<W>) -> fmt::Result {
-        write!(f, "{self}")
-    }
-}
 
 impl fmt::Display for UsageError {
     fn fmt<W: fmt::Write>(&self, f: &mut fmt::Formatter<W>) -> fmt::Result {

@@ -5,19 +5,13 @@ use std::io::Write;
 use std::{fmt, fs, io};
 
 /// A file that cannot be read or written.
-#[derive(Drop)]
+#[derive(Debug, Drop)]
 struct Unusable<'a> {
     path: &'a str,
     error: io::Error,
 }
 
 impl Error for Unusable<'_> {}
-
-impl fmt::Debug for Unusable<'_> {
-    fn fmt<W: fmt::Write>(&self, f: &mut fmt::Formatter<W>) -> fmt::Result {
-        write!(f, "{self}")
-    }
-}
 
 impl fmt::Display for Unusable<'_> {
     fn fmt<W: fmt::Write>(&self, f: &mut fmt::Formatter<W>) -> fmt::Result {

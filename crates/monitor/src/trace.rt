@@ -2,7 +2,7 @@
 //!
 //! The first line is `SIZE PAGE_SIZE`, and each further one is an access, `OFFSET LENGTH`.
 //! Blank lines and lines that begin with `#` are skipped.
-ghost use Rattle.std.specs.Prelude.{◌≡◌, ◌≤◌, IfOk};
+ghost use Rattle.std.specs.Prelude.{◌≤◌, IfOk};
 ghost use Rattle.monitor.specs.Fields.{TwoNumbers};
 ghost use Rattle.monitor.specs.Numerals.{Reads, Writes, base_of, digits_of};
 ghost use Rattle.monitor.specs.Texts.{Skips, Says, numbered, AccessLines, Traces};

@@ -1,5 +1,5 @@
 -- The account of a script, line by line. Assumes nothing.
-use Rattle.std.specs.Prelude.{◌≡◌, ℕ, List, [], ◌∷◌, vec_items, string_bytes}
+use Rattle.std.specs.Prelude.{ℕ, List, [], ◌∷◌, vec_items, string_bytes}
 use Rattle.text.specs.Said.{Says}
 use Rattle.script.specs.Scripts.{Small}
 use Rattle.replay.specs.declared.account.Account.{Account}

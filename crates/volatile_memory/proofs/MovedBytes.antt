@@ -9,17 +9,17 @@ pub length_part : (xs : List ℕ) (i k : ℕ) → i + k ≤ length xs → length
 unfolding part
 length_part xs i k fits = simp (length-take, length-drop) (omega arith)
 
-get_d_part : (xs : List ℕ) (i k j : ℕ) → j < k → get_or (part xs i k) j 0 ≡ get_or xs (i + j) 0
+get_or_part : (xs : List ℕ) (i k j : ℕ) → j < k → get_or (part xs i k) j 0 ≡ get_or xs (i + j) 0
 unfolding part
-get_d_part xs i k j h = rw (get_or-take, get_or-drop)
+get_or_part xs i k j h = rw (get_or-take, get_or-drop)
 
 length-overlaid : (xs ys : List ℕ) (i : ℕ) → i + length ys ≤ length xs → length (overlaid xs i ys) ≡ length xs
 unfolding overlaid
 length-overlaid xs ys i fits = simp (length-append, length-take, length-drop) (omega arith)
 
-get_d_overlaid : (xs ys : List ℕ) (i : ℕ) → i + length ys ≤ length xs → (j : ℕ) → get_or (overlaid xs i ys) j 0 ≡ cond (leb i j && ltb j (i + length ys)) (get_or ys (j - i) 0) (get_or xs j 0)
+get_or_overlaid : (xs ys : List ℕ) (i : ℕ) → i + length ys ≤ length xs → (j : ℕ) → get_or (overlaid xs i ys) j 0 ≡ cond (leb i j && ltb j (i + length ys)) (get_or ys (j - i) 0) (get_or xs j 0)
 unfolding overlaid
-get_d_overlaid xs ys i fits j = grind (arith, nat_tests, places)
+get_or_overlaid xs ys i fits j = grind (arith, nat_tests, places)
 
 module _ (e : List ℕ) (from to k : ℕ) (source : from + k ≤ length e) (target : to + k ≤ length e) where
   pub length_moved : length (overlaid e to (part e from k)) ≡ length e
@@ -29,8 +29,8 @@ module _ (e : List ℕ) (from to k : ℕ) (source : from + k ≤ length e) (targ
   moved_at : (j : ℕ) → get_or (overlaid e to (part e from k)) j 0 ≡ cond (leb to j && ltb j (to + k)) (get_or e (from + (j - to)) 0) (get_or e j 0)
   moved_at j =
       let long = length_part e from k source in
-      let at = get_d_overlaid e (part e from k) to (omega arith) j in
-      let read = get_d_part e from k (j - to) in
+      let at = get_or_overlaid e (part e from k) to (omega arith) j in
+      let read = get_or_part e from k (j - to) in
       grind (arith, nat_tests)
 
 -- one byte written so that what stands everywhere is what another list has

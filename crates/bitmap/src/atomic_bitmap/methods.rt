@@ -6,7 +6,6 @@ ghost use Rattle.bitmap.specs.Tracked.{loan, fixed, tracked};
 
 use super::AtomicBitmap;
 use crate::range::{page_count, page_range};
-use crate::word::Word;
 use crate::{Bitmap, CleanBitmap, PageSize, word};
 
 impl<'a> AtomicBitmap<'a> {

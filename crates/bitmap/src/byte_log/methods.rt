@@ -6,7 +6,6 @@ ghost use Rattle.bitmap.specs.Tracked.{loan, over, logged};
 
 use super::ByteLog;
 use crate::range::{page_count, page_range};
-use crate::word::Word;
 use crate::{Bitmap, CleanBitmap, PageSize, word};
 
 // vhost-user logs pages of this size.

@@ -1,5 +1,5 @@
 //! The part of a memory that a view lies on.
-ghost use Rattle.std.specs.Prelude.{◌≡◌, length};
+ghost use Rattle.std.specs.Prelude.{◌≡◌};
 ghost use Rattle.volatile_memory.specs.Calls.{guards};
 ghost use Rattle.volatile_memory.specs.Faults.{said};
 ghost use Rattle.volatile_memory.specs.Spans.{span};

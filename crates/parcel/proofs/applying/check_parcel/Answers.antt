@@ -5,8 +5,8 @@ use Rattle.parcel.proofs.AppliedSteps.{Headed, headed, rules-head, rules-numbers
 use Rattle.parcel.proofs.applying.check_parcel.Goals as goal
 
 -- what the head tells, with the count as it was read
-room-from : (n : ℕ) (bs : List ℕ) (k : ℕ) → k ≡ number_at bs 1 → Headed n bs → 24 + 8 * k ≤ length bs
-room-from n bs k is head = omega (arith, head.room)
+room_from : (n : ℕ) (bs : List ℕ) (k : ℕ) → k ≡ number_at bs 1 → Headed n bs → 24 + 8 * k ≤ length bs
+room_from n bs k is head = omega (arith, head.room)
 
 pub returns-in_err-check_head : goal.returns-in_err-check_head
 returns-in_err-check_head c =
@@ -25,7 +25,7 @@ invariant_of-layout c =
 
 pub check_numbers-requires : goal.check_numbers-requires
 check_numbers-requires c =
-    room-from _ c.args.parcel.now c.number_at-count.result c.number_at-count.ensures (headed c.args.total c.args.parcel.now c.in_ok-check_head.ensures)
+    room_from _ c.args.parcel.now c.number_at-count.result c.number_at-count.ensures (headed c.args.total c.args.parcel.now c.in_ok-check_head.ensures)
 
 pub returns-in_err-bytes : goal.returns-in_err-bytes
 returns-in_err-bytes c =
@@ -34,17 +34,17 @@ returns-in_err-bytes c =
 
 pub overflow_mul-count : goal.overflow_mul-count
 overflow_mul-count c =
-    let room = room-from _ c.args.parcel.now c.number_at-count.result c.number_at-count.ensures (headed c.args.total c.args.parcel.now c.in_ok-check_head.ensures) in
+    let room = room_from _ c.args.parcel.now c.number_at-count.result c.number_at-count.ensures (headed c.args.total c.args.parcel.now c.in_ok-check_head.ensures) in
     omega arith
 
 pub overflow_add-count : goal.overflow_add-count
 overflow_add-count c =
-    let room = room-from _ c.args.parcel.now c.number_at-count.result c.number_at-count.ensures (headed c.args.total c.args.parcel.now c.in_ok-check_head.ensures) in
+    let room = room_from _ c.args.parcel.now c.number_at-count.result c.number_at-count.ensures (headed c.args.total c.args.parcel.now c.in_ok-check_head.ensures) in
     omega arith
 
 pub check_length-requires : goal.check_length-requires
 check_length-requires c =
-    room-from _ c.args.parcel.now c.number_at-count.result c.number_at-count.ensures (headed c.args.total c.args.parcel.now c.in_ok-check_head.ensures)
+    room_from _ c.args.parcel.now c.number_at-count.result c.number_at-count.ensures (headed c.args.total c.args.parcel.now c.in_ok-check_head.ensures)
 
 pub returns : goal.returns
 returns c =
