@@ -2,7 +2,7 @@
 
 A name counts where a file of specs/, or a file of lemmas in proofs/, declares it: a definition, a lemma, a field, a constructor, a parameter
 or a local name. A dash stays where it joins the names of two definitions, as in length-take. Names of src/, of the library, and names
-that the check makes (those declared in a function's folder of proofs/) stay as they are. Strings are not touched.
+that the check makes (those declared in a function's folder of proofs/) stay as they are. No string of the repository holds such a name.
 """
 
 import collections
@@ -10,7 +10,6 @@ import os
 import re
 import sys
 
-KIT = "/opt/rattle/rattle"
 NAME = r"[A-Za-z][\w'≤<≡+*ℕℤ]*(?:-[\w'≤<≡+*ℕℤ]+)*"
 TOKEN = re.compile(r"(?<![\w'-])" + NAME + r"(?![\w'-])")
 DECLARED = re.compile(r"^\s*(?:(?:abbrev|unfoldable|opaque|pub|data|record)\s+)*(" + NAME + r")(?:\s+[({].*?)?\s*(?::\s|:$)")
