@@ -1,7 +1,7 @@
 //! Page sizes, which are never 0.
 ghost use Rattle.std.specs.Prelude.{◌≡◌, ◌<◌};
 ghost use Rattle.std.specs.Option.{option_map};
-ghost use Rattle.bitmap.specs.Pages.{page_size};
+ghost use Rattle.bitmap.specs.Pages.{page_size, ceiling};
 
 /// How many bytes a page has.
 #[derive(Clone, Copy)]
@@ -19,6 +19,13 @@ impl PageSize {
             return None;
         }
         Some(PageSize { value })
+    }
+
+    /// How many pages `byte_size` bytes take.
+    pub fn pages(self, byte_size: usize) -> usize
+        ensures { result ≡ ceiling byte_size self.value }
+    {
+        byte_size.div_ceil(self.value)
     }
 
     /// The number of bytes.
