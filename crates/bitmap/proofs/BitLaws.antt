@@ -101,3 +101,11 @@ same_number (suc w) a b h k each =
     let low : a % 2 ≡ b % 2 = grind (arith, nat_tests, each 0 (omega arith)) in
     let high : a / 2 ≡ b / 2 = same_number w (a / 2) (b / 2) (omega (arith, pow-suc 2 w)) (omega (arith, pow-suc 2 w)) (λ j below. halved a j ∙ each (suc j) (omega arith) ∙ sym (halved b j)) in
     omega arith
+
+-- the power of a number of bytes is that of their bits
+pub power_bytes : (z : ℕ) → 256 ^ z ≡ 2 ^ (8 * z)
+power_bytes zero = refl
+power_bytes (suc z) =
+    let ih = power_bytes z in
+    let e : 8 * suc z ≡ 8 + 8 * z = omega arith in
+    rw (e, pow-add 2 8 (8 * z)) (omega (arith, pow-suc 256 z, ih))

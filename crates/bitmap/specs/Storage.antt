@@ -5,6 +5,10 @@ use Rattle.std.specs.Prelude.{ℕ, zero, suc, ◌/◌, ◌%◌, ◌^◌, Bool, f
 abbrev pub bit_of : ℕ → ℕ → Bool
 bit_of w k = w / 2 ^ k % 2 == 1
 
+-- bit k of a word, read by its number
+abbrev pub bit : {W : Type 0} → (W → ℕ) → W → ℕ → Bool
+bit bits_of w k = bit_of (bits_of w) k
+
 -- bit k of word i, clear past the last word
 abbrev pub bit_at : {W : Type 0} → (W → ℕ → Bool) → List W → ℕ → ℕ → Bool
 bit_at bit [] i k = false

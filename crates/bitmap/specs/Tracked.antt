@@ -2,24 +2,36 @@
 use Rattle.std.specs.Prelude.{ℕ, ◌*◌, max, List, [], ◌∷◌, length}
 use Rattle.std.specs.Borrow.{MutBor}
 use Rattle.bitmap.specs.Pages.{Meaning, page_count}
-use Rattle.bitmap.specs.Storage.{bit_of, stored}
+use Rattle.bitmap.specs.Storage.{bit, stored}
+use Rattle.bitmap.specs.declared.page_bits.PageBits.{PageBits}
 use Rattle.bitmap.specs.declared.atomic_bitmap.AtomicBitmap.{AtomicBitmap}
 use Rattle.bitmap.specs.declared.byte_log.ByteLog.{ByteLog}
 
 -- lent storage: the name by which its lender knows it, and its length
-abbrev pub loan : MutBor (List ℕ) → List ℕ
+abbrev pub loan : {W : Type 0} → MutBor (List W) → List ℕ
 loan r = r.ghost_name ∷ length r.now ∷ []
 
--- a memory of so many bytes, in pages of one size, over words of so many bits
-abbrev pub over : ℕ → ℕ → ℕ → List ℕ → Meaning
-over byte_size page width words = record { page = page; count = page_count byte_size page (width * length words); base = 0; bit = stored bit_of width words }
+-- a memory of so many bytes, in pages of one size, over words of so many bits, each known by its number
+abbrev pub over_words : {W : Type 0} → (W → ℕ) → ℕ → ℕ → ℕ → List W → Meaning
+over_words bits_of byte_size page width words = record { page = page; count = page_count byte_size page (width * length words); base = 0; bit = stored (bit bits_of) width words }
 
-abbrev pub tracked : AtomicBitmap → Meaning
-tracked b = over b.byte_size (max 1 b.page_size) 64 b.map.now
+-- the same, where the words are numbers
+abbrev pub over : ℕ → ℕ → ℕ → List ℕ → Meaning
+over = over_words (λ n. n)
+
+-- the bits of a memory's pages, in words of so many bytes
+abbrev pub paged : {W : Type 0} → (W → ℕ) → ℕ → ℕ → PageBits W → Meaning
+paged bits_of bytes page b = over_words bits_of b.byte_size page (8 * bytes) b.words.now
 
 -- what no call changes: the size in bytes that it was made for, and the storage that was lent
+abbrev pub kept : {W : Type 0} → PageBits W → List ℕ
+kept b = b.byte_size ∷ loan b.words
+
+abbrev pub tracked : AtomicBitmap → Meaning
+tracked b = paged (λ n. n) 8 (max 1 b.page_size) b.bits
+
 abbrev pub fixed : AtomicBitmap → List ℕ
-fixed b = b.byte_size ∷ loan b.map
+fixed b = kept b.bits
 
 abbrev pub logged : ByteLog → Meaning
-logged b = over b.byte_size 4096 8 b.log.now
+logged b = paged (λ n. n) 1 4096 b.bits

@@ -7,6 +7,7 @@ ghost use Rattle.bitmap.specs.Pages.{Meaning, Paged, Bounded, marked, cleaned, d
 mod atomic_bitmap;
 mod byte_log;
 mod none;
+mod page_bits;
 mod page_size;
 mod range;
 mod share;

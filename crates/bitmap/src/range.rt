@@ -3,12 +3,13 @@ ghost use Rattle.std.specs.Prelude.{◌≡◌, ℕ, ◌+◌, ◌-◌, ◌≤◌,
 ghost use Rattle.bitmap.specs.Pages.{page_count, spans, top};
 
 use crate::PageSize;
+use std::ops::Range;
 
 // How many pages `byte_size` bytes have, as far as there are `bits` for them.
 pub(crate) fn page_count(byte_size: usize, page_size: PageSize, bits: usize) -> usize
     ensures { result ≡ page_count byte_size page_size.value bits }
 {
-    byte_size.div_ceil(page_size.get()).min(bits)
+    page_size.pages(byte_size).min(bits)
 }
 
 // The last of `len` bytes from `start` on, of which there is one: a range past the top of the addresses ends there.
@@ -18,20 +19,20 @@ fn last_byte(start: usize, len: usize) -> usize
     start.saturating_add(len.saturating_sub(1))
 }
 
-// The pages that `len` bytes from `start` on lie on, of `count` pages: from the first number up to the second.
+// The pages that `len` bytes from `start` on lie on, of `count` pages.
 pub(crate) fn page_range(
     page_size: PageSize,
     count: usize,
     start: usize,
     len: usize,
-) -> (usize, usize)
-    ensures within { result.1 ≤ count }
-    ensures pages { (n : ℕ) → spans page_size.value count start len n ≡ (nat_le result.0 n && nat_lt n result.1) }
+) -> Range<usize>
+    ensures within { result.end ≤ count }
+    ensures pages { (n : ℕ) → spans page_size.value count start len n ≡ (nat_le result.start n && nat_lt n result.end) }
 {
     if len == 0 {
-        return (0, 0);
+        return 0..0;
     }
     let first = start / page_size.get();
     let last = last_byte(start, len) / page_size.get();
-    (first, last.saturating_add(1).min(count))
+    first..last.saturating_add(1).min(count)
 }

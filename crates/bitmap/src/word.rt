@@ -1,106 +1,68 @@
-//! Words that hold one bit a page, the lowest first.
-ghost use Rattle.std.specs.Prelude.{◌≡◌, ℕ, ◌*◌, ◌<◌, ◌≤◌, Bool, ◌&&◌, length, if◌then◌else◌, nat_eq, nat_le, nat_lt};
-ghost use Rattle.bitmap.specs.Storage.{bit_of, stored};
-ghost use Rattle.std.proofs.Common.{rules};
+//! Rows of words that hold one bit a page, the lowest first.
+ghost use Rattle.std.specs.Prelude.{◌≡◌, ℕ, ◌*◌, ◌^◌, ◌<◌, ◌≤◌, ◌&&◌, length, if◌then◌else◌, nat_eq, nat_le, nat_lt};
+ghost use Rattle.bitmap.specs.Storage.{bit_of, bit, stored};
 
-/// A word of a bitmap's storage.
-pub(crate) trait Word: Copy {
-    ghost width: { ℕ };
+use byte_valued::Integer;
+use std::ops::Range;
 
-    ghost bit: { Self → ℕ → Bool };
-
-    // How many bits it has.
-    fn width_of() -> usize
-        ensures { result ≡ width };
-
-    // Bit `k`, clear past the last one.
-    fn get(self, k: usize) -> bool
-        ensures { result ≡ bit self k };
-
-    // The same word but for bit `k`, if it has that bit.
-    fn with(self, k: usize, on: bool) -> Self
-        ensures { (j : ℕ) → j < width → bit result j ≡ (if nat_eq j k then on else bit self j) };
-
-    ghost wide: { 0 < width };
-}
-
-impl Word for u64 {
-    ghost width = { 64 };
-
-    ghost bit = { bit_of };
-
-    ghost wide = { Prim.search rules };
-
-    fn width_of() -> usize {
-        64
-    }
-
-    fn get(self, k: usize) -> bool {
-        k < 64 && self & (1 << k) != 0
-    }
-
-    fn with(self, k: usize, on: bool) -> u64 {
-        if k >= 64 {
-            self
-        } else if on {
-            self | (1 << k)
-        } else {
-            self & !(1 << k)
-        }
-    }
-}
-
-impl Word for u8 {
-    ghost width = { 8 };
-
-    ghost bit = { bit_of };
-
-    ghost wide = { Prim.search rules };
-
-    fn width_of() -> usize {
-        8
-    }
-
-    fn get(self, k: usize) -> bool {
-        k < 8 && self & (1 << k) != 0
-    }
-
-    fn with(self, k: usize, on: bool) -> u8 {
-        if k >= 8 {
-            self
-        } else if on {
-            self | (1 << k)
-        } else {
-            self & !(1 << k)
-        }
-    }
+// How many bits a word has.
+pub(crate) fn word_bits<W: Integer>() -> usize
+    ensures { result ≡ 8 * W.WIDTH }
+{
+    8 * W::WIDTH
 }
 
 // Bit `n` of a row of words.
-pub(crate) fn get<W: Word>(words: &[W], n: usize) -> bool
-    requires { n < W.width * length words.now }
-    ensures { result ≡ stored W.bit W.width words.now n }
+pub(crate) fn get<W: Integer>(words: &[W], n: usize) -> bool
+    requires { n < 8 * W.WIDTH * length words.now }
+    ensures { result ≡ stored (bit W.bits_of) (8 * W.WIDTH) words.now n }
 {
-    let width = W::width_of();
-    words[n / width].get(n % width)
+    let width = word_bits::<W>();
+    get_bit(words[n / width], n % width)
+}
+
+// Bit `k` of a word.
+fn get_bit<W: Integer>(word: W, k: usize) -> bool
+    requires { k < 8 * W.WIDTH }
+    ensures { result ≡ bit W.bits_of word k }
+{
+    word.to_bits() & (1 << k) != 0
 }
 
 // Sets or clears bit `n` of a row of words.
-pub(crate) fn put<W: Word>(words: &mut [W], n: usize, on: bool)
-    requires { n < W.width * length words.old }
-    ensures { (m : ℕ) → stored W.bit W.width words.new m ≡ (if nat_eq m n then on else stored W.bit W.width words.old m) }
+pub(crate) fn put<W: Integer>(words: &mut [W], n: usize, on: bool)
+    requires { n < 8 * W.WIDTH * length words.old }
+    ensures { (m : ℕ) → stored (bit W.bits_of) (8 * W.WIDTH) words.new m ≡ (if nat_eq m n then on else stored (bit W.bits_of) (8 * W.WIDTH) words.old m) }
 {
-    let width = W::width_of();
+    let width = word_bits::<W>();
     let word = &mut words[n / width];
-    *word = word.with(n % width, on);
+    *word = with_bit(*word, n % width, on);
 }
 
-// Sets or clears the bits from `first` up to `end`.
-pub(crate) fn assign<W: Word>(words: &mut [W], first: usize, end: usize, on: bool)
-    requires { end ≤ W.width * length words.old }
-    ensures { (m : ℕ) → stored W.bit W.width words.new m ≡ (if nat_le first m && nat_lt m end then on else stored W.bit W.width words.old m) }
+// A word with bit `k` set or cleared.
+fn with_bit<W: Integer>(word: W, k: usize, on: bool) -> W
+    requires { k < 8 * W.WIDTH }
+    ensures { (j : ℕ) → j < 8 * W.WIDTH → bit W.bits_of result j ≡ (if nat_eq j k then on else bit W.bits_of word j) }
 {
-    for n in first..end {
+    W::from_bits(assign_bit(word.to_bits(), k, on)).unwrap()
+}
+
+// A number with bit `k` set or cleared, which is no wider.
+fn assign_bit(bits: u64, k: usize, on: bool) -> u64
+    requires { k < 64 }
+    ensures bits { (j : ℕ) → j < 64 → bit_of result j ≡ (if nat_eq j k then on else bit_of bits j) }
+    ensures within { (w : ℕ) → k < w → bits < 2 ^ w → result < 2 ^ w }
+{
+    let mask = 1 << k;
+    if on { bits | mask } else { bits & !mask }
+}
+
+// Sets or clears a range of bits.
+pub(crate) fn assign<W: Integer>(words: &mut [W], bits: Range<usize>, on: bool)
+    requires { bits.end ≤ 8 * W.WIDTH * length words.old }
+    ensures { (m : ℕ) → stored (bit W.bits_of) (8 * W.WIDTH) words.new m ≡ (if nat_le bits.start m && nat_lt m bits.end then on else stored (bit W.bits_of) (8 * W.WIDTH) words.old m) }
+{
+    for n in bits {
         put(words, n, on);
     }
 }

@@ -25,7 +25,7 @@ unsigned_again zero n h = omega arith
 unsigned_again (suc z) n h = let ih = unsigned_again z (n / 256) (omega (arith, pow-suc 256 z)) in omega arith
 
 -- z bytes make a number that they hold
-number_of_below : (bs : List ℕ) → Bytes bs → number_of bs < 256 ^ length bs
+pub number_of_below : (bs : List ℕ) → Bytes bs → number_of bs < 256 ^ length bs
 number_of_below [] h = omega arith
 number_of_below (b ∷ bs) (h, hs) = let ih = number_of_below bs hs in omega (arith, pow-suc 256 (length bs))
 
@@ -50,7 +50,7 @@ halves : (z : ℕ) → 0 < z → 256 ^ z ≡ 256 ^ z / 2 + 256 ^ z / 2
 halves zero h = absurd (omega arith)
 halves (suc z) h = omega (arith, pow-suc 256 z)
 
-complement_below : (z : ℕ) → 0 < z → (x : ℤ) → Signed z x → complement z x < 256 ^ z
+pub complement_below : (z : ℕ) → 0 < z → (x : ℤ) → Signed z x → complement z x < 256 ^ z
 complement_below z some (pos n) h = omega (arith, halves z some)
 complement_below z some (negsuc n) h = omega (arith, halves z some)
 
@@ -86,15 +86,15 @@ abbrev pub placed : ℕ → List ℕ → ℕ → ℕ
 placed zero bs i = 0
 placed (suc z) bs i = slice_index bs i + placed z bs (suc i) * 256
 
-number_of-drop : (z : ℕ) (bs : List ℕ) (i : ℕ) → length bs ≡ i + z → number_of (drop i bs) ≡ placed z bs i
+pub number_of-drop : (z : ℕ) (bs : List ℕ) (i : ℕ) → length bs ≡ i + z → number_of (drop i bs) ≡ placed z bs i
 number_of-drop zero bs i is = rw (drop_all i bs (omega arith))
 number_of-drop (suc z) bs i is =
     let e : i + 1 ≡ suc i = omega arith in
     let ih = number_of-drop z bs (suc i) (omega arith) in
     rw (drop_more bs i 0 (omega arith), e, ih)
 
--- a slice of z bytes makes the number that they stand for
-pub made_whole : (z : ℕ) (bs : List ℕ) (n : ℕ) → length bs ≡ z → n ≡ placed z bs 0 → Some n ≡ made_of z number_of bs
-made_whole z bs n is placed_is =
+-- a slice of z bytes makes what the number that they stand for does
+pub made_whole : {X : Type 0} (z : ℕ) (of_bits : ℕ → X) (bs : List ℕ) (n : ℕ) → length bs ≡ z → n ≡ placed z bs 0 → Some (of_bits n) ≡ made_of z (λ bs. of_bits (number_of bs)) bs
+made_whole z of_bits bs n is placed_is =
     let e : n ≡ number_of bs = placed_is ∙ sym (number_of-drop z bs 0 (omega arith)) in
     rw e (grind (arith, nat_tests))

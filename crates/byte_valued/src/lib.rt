@@ -5,10 +5,12 @@ ghost use Rattle.std.specs.Prelude.{◌≡◌, ℕ, ◌<◌, ◌≤◌, List, le
 ghost use Rattle.byte_valued.specs.LittleEndian.{Bytes};
 ghost use Rattle.byte_valued.specs.Buffers.{has_room, laid, made_of};
 
+mod integer;
 mod line_head;
 mod signed;
 mod unsigned;
 
+pub use integer::Integer;
 pub use line_head::LineHead;
 
 /// A kind of element: `size` bytes, from 1 to 64, that any such bytes make a value of.

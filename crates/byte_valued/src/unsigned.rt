@@ -1,203 +1,118 @@
-//! Unsigned integers, the least significant byte first.
-ghost use Rattle.byte_valued.specs.LittleEndian.{bytes_of, number_of, Unsigned};
-ghost use Rattle.byte_valued.specs.ByteLaws.{unsigned_exact, unsigned_again, unsigned_back};
-ghost use Rattle.std.proofs.Common.{rules};
+//! Unsigned integers.
+//!
+//! One impl for each, since an impl of this crate may not be written by a macro.
+ghost use Rattle.std.proofs.Common.{lit<, lit≤};
+ghost use Rattle.byte_valued.specs.LittleEndian.{Unsigned};
+ghost use Rattle.byte_valued.specs.IntegerProofs.{unsigned_laws};
 
-use crate::{AtomicAccess, ByteValued, lay};
+use crate::Integer;
 
-impl ByteValued for u8 {
-    ghost size = { 1 };
+impl Integer for u8 {
+    const WIDTH: usize = 1;
 
-    ghost bytes = { bytes_of 1 };
+    ghost WIDTH = { 1 };
 
-    ghost value = { number_of };
+    ghost bits_of = { λ x. x };
+
+    ghost of_bits = { λ n. n };
 
     ghost Holds = { Unsigned 1 };
 
-    ghost sized = { Prim.search rules };
+    ghost laws = { unsigned_laws 1 (lit< tt) (lit≤ tt) };
 
-    ghost exact = { unsigned_exact 1 };
-
-    ghost again = { unsigned_again 1 };
-
-    ghost back = { unsigned_back 1 };
-
-    fn size_of() -> usize {
-        1
+    fn to_bits(self) -> u64 {
+        u64::from(self)
     }
 
-    fn zeroed() -> u8 {
-        0
-    }
-
-    fn from_slice(data: &[u8]) -> Option<u8> {
-        match data {
-            [a] => Some(u8::from_le_bytes([*a])),
-            _ => None,
-        }
-    }
-
-    fn write_to(self, buf: &mut [u8]) -> Option<()> {
-        lay(&self.to_le_bytes(), buf)
+    fn from_bits(bits: u64) -> Option<u8> {
+        u8::try_from(bits).ok()
     }
 }
 
-impl AtomicAccess for u8 {}
+impl Integer for u16 {
+    const WIDTH: usize = 2;
 
-impl ByteValued for u16 {
-    ghost size = { 2 };
+    ghost WIDTH = { 2 };
 
-    ghost bytes = { bytes_of 2 };
+    ghost bits_of = { λ x. x };
 
-    ghost value = { number_of };
+    ghost of_bits = { λ n. n };
 
     ghost Holds = { Unsigned 2 };
 
-    ghost sized = { Prim.search rules };
+    ghost laws = { unsigned_laws 2 (lit< tt) (lit≤ tt) };
 
-    ghost exact = { unsigned_exact 2 };
-
-    ghost again = { unsigned_again 2 };
-
-    ghost back = { unsigned_back 2 };
-
-    fn size_of() -> usize {
-        2
+    fn to_bits(self) -> u64 {
+        u64::from(self)
     }
 
-    fn zeroed() -> u16 {
-        0
-    }
-
-    fn from_slice(data: &[u8]) -> Option<u16> {
-        match data {
-            [a, b] => Some(u16::from_le_bytes([*a, *b])),
-            _ => None,
-        }
-    }
-
-    fn write_to(self, buf: &mut [u8]) -> Option<()> {
-        lay(&self.to_le_bytes(), buf)
+    fn from_bits(bits: u64) -> Option<u16> {
+        u16::try_from(bits).ok()
     }
 }
 
-impl AtomicAccess for u16 {}
+impl Integer for u32 {
+    const WIDTH: usize = 4;
 
-impl ByteValued for u32 {
-    ghost size = { 4 };
+    ghost WIDTH = { 4 };
 
-    ghost bytes = { bytes_of 4 };
+    ghost bits_of = { λ x. x };
 
-    ghost value = { number_of };
+    ghost of_bits = { λ n. n };
 
     ghost Holds = { Unsigned 4 };
 
-    ghost sized = { Prim.search rules };
+    ghost laws = { unsigned_laws 4 (lit< tt) (lit≤ tt) };
 
-    ghost exact = { unsigned_exact 4 };
-
-    ghost again = { unsigned_again 4 };
-
-    ghost back = { unsigned_back 4 };
-
-    fn size_of() -> usize {
-        4
+    fn to_bits(self) -> u64 {
+        u64::from(self)
     }
 
-    fn zeroed() -> u32 {
-        0
-    }
-
-    fn from_slice(data: &[u8]) -> Option<u32> {
-        match data {
-            [a, b, c, d] => Some(u32::from_le_bytes([*a, *b, *c, *d])),
-            _ => None,
-        }
-    }
-
-    fn write_to(self, buf: &mut [u8]) -> Option<()> {
-        lay(&self.to_le_bytes(), buf)
+    fn from_bits(bits: u64) -> Option<u32> {
+        u32::try_from(bits).ok()
     }
 }
 
-impl AtomicAccess for u32 {}
+impl Integer for u64 {
+    const WIDTH: usize = 8;
 
-impl ByteValued for u64 {
-    ghost size = { 8 };
+    ghost WIDTH = { 8 };
 
-    ghost bytes = { bytes_of 8 };
+    ghost bits_of = { λ x. x };
 
-    ghost value = { number_of };
+    ghost of_bits = { λ n. n };
 
     ghost Holds = { Unsigned 8 };
 
-    ghost sized = { Prim.search rules };
+    ghost laws = { unsigned_laws 8 (lit< tt) (lit≤ tt) };
 
-    ghost exact = { unsigned_exact 8 };
-
-    ghost again = { unsigned_again 8 };
-
-    ghost back = { unsigned_back 8 };
-
-    fn size_of() -> usize {
-        8
+    fn to_bits(self) -> u64 {
+        self
     }
 
-    fn zeroed() -> u64 {
-        0
-    }
-
-    fn from_slice(data: &[u8]) -> Option<u64> {
-        match data {
-            [a, b, c, d, e, f, g, h] => Some(u64::from_le_bytes([*a, *b, *c, *d, *e, *f, *g, *h])),
-            _ => None,
-        }
-    }
-
-    fn write_to(self, buf: &mut [u8]) -> Option<()> {
-        lay(&self.to_le_bytes(), buf)
+    fn from_bits(bits: u64) -> Option<u64> {
+        Some(bits)
     }
 }
 
-impl AtomicAccess for u64 {}
+impl Integer for usize {
+    const WIDTH: usize = 8;
 
-impl ByteValued for usize {
-    ghost size = { 8 };
+    ghost WIDTH = { 8 };
 
-    ghost bytes = { bytes_of 8 };
+    ghost bits_of = { λ x. x };
 
-    ghost value = { number_of };
+    ghost of_bits = { λ n. n };
 
     ghost Holds = { Unsigned 8 };
 
-    ghost sized = { Prim.search rules };
+    ghost laws = { unsigned_laws 8 (lit< tt) (lit≤ tt) };
 
-    ghost exact = { unsigned_exact 8 };
-
-    ghost again = { unsigned_again 8 };
-
-    ghost back = { unsigned_back 8 };
-
-    fn size_of() -> usize {
-        8
+    fn to_bits(self) -> u64 {
+        self as u64
     }
 
-    fn zeroed() -> usize {
-        0
-    }
-
-    fn from_slice(data: &[u8]) -> Option<usize> {
-        match data {
-            [a, b, c, d, e, f, g, h] => Some(usize::from_le_bytes([
-                *a, *b, *c, *d, *e, *f, *g, *h,
-            ])),
-            _ => None,
-        }
-    }
-
-    fn write_to(self, buf: &mut [u8]) -> Option<()> {
-        lay(&self.to_le_bytes(), buf)
+    fn from_bits(bits: u64) -> Option<usize> {
+        usize::try_from(bits).ok()
     }
 }
-
-impl AtomicAccess for usize {}

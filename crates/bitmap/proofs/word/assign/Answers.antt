@@ -11,10 +11,13 @@ last : (first end n m : ℕ) (on before : Bool) → first ≤ n → end ≤ n �
 last first end n m on before h k l = grind (arith, nat_tests)
 
 pub loop-n-preserved : goal.loop-n-preserved
-loop-n-preserved g c = (
-  omega arith,
-  λ m. rw (c.put.ensures m, c.loop-n.invariant.1 m) (next _ _ m _ _ c.loop-n.auto.n),
-)
+loop-n-preserved g c =
+    let (ends, (some, is, moved)) = c.in-Some.ensures.steps in
+    let (end, low, high, bits) = c.loop-n.invariant in
+    (ends ∙ end, omega arith, omega arith, λ m. rw (c.put.ensures m, is, bits m, moved) (next _ _ m _ _ low))
 
 pub returns : goal.returns
-returns g c m = c.loop-n.invariant.1 m ∙ last _ _ _ m _ _ c.loop-n.auto.n c.loop-n-test.false c.loop-n.invariant.0
+returns g c m =
+    let (ends, (none, moved)) = c.in-None.ensures.steps in
+    let (end, low, high, bits) = c.loop-n.invariant in
+    bits m ∙ last _ _ _ m _ _ low (omega arith) high
