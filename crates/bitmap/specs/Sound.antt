@@ -24,10 +24,10 @@ pub tracked_paged : (b : AtomicBitmap) → Paged (tracked b)
 tracked_paged b = omega arith
 
 pub tracked_bounded : (b : AtomicBitmap) → Bounded (tracked b)
-tracked_bounded b = over_bounded b.bits.byte_size (max 1 b.page_size) (64 * length b.bits.words.now) (omega arith)
+tracked_bounded b = over_bounded b.byte_size (max 1 b.page_size) (64 * length b.map.now) (omega arith)
 
 pub logged_paged : (b : ByteLog) → Paged (logged b)
 logged_paged b = omega arith
 
 pub logged_bounded : (b : ByteLog) → Bounded (logged b)
-logged_bounded b = over_bounded b.bits.byte_size 4096 (8 * length b.bits.words.now) (omega arith)
+logged_bounded b = over_bounded b.byte_size 4096 (8 * length b.log.now) (omega arith)

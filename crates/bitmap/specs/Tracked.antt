@@ -3,7 +3,6 @@ use Rattle.std.specs.Prelude.{ℕ, ◌*◌, max, List, [], ◌∷◌, length}
 use Rattle.std.specs.Borrow.{MutBor}
 use Rattle.bitmap.specs.Pages.{Meaning, page_count}
 use Rattle.bitmap.specs.Storage.{bit, stored}
-use Rattle.bitmap.specs.declared.page_bits.PageBits.{PageBits}
 use Rattle.bitmap.specs.declared.atomic_bitmap.AtomicBitmap.{AtomicBitmap}
 use Rattle.bitmap.specs.declared.byte_log.ByteLog.{ByteLog}
 
@@ -19,19 +18,12 @@ over_words bits_of byte_size page width words = record { page = page; count = pa
 abbrev pub over : ℕ → ℕ → ℕ → List ℕ → Meaning
 over = over_words (λ n. n)
 
--- the bits of a memory's pages, in words of so many bytes
-abbrev pub paged : {W : Type 0} → (W → ℕ) → ℕ → ℕ → PageBits W → Meaning
-paged bits_of bytes page b = over_words bits_of b.byte_size page (8 * bytes) b.words.now
+abbrev pub tracked : AtomicBitmap → Meaning
+tracked b = over b.byte_size (max 1 b.page_size) 64 b.map.now
 
 -- what no call changes: the size in bytes that it was made for, and the storage that was lent
-abbrev pub kept : {W : Type 0} → PageBits W → List ℕ
-kept b = b.byte_size ∷ loan b.words
-
-abbrev pub tracked : AtomicBitmap → Meaning
-tracked b = paged (λ n. n) 8 (max 1 b.page_size) b.bits
-
 abbrev pub fixed : AtomicBitmap → List ℕ
-fixed b = kept b.bits
+fixed b = b.byte_size ∷ loan b.map
 
 abbrev pub logged : ByteLog → Meaning
-logged b = paged (λ n. n) 1 4096 b.bits
+logged b = over b.byte_size 4096 8 b.log.now

@@ -4,15 +4,15 @@ ghost use Rattle.bitmap.specs.Pages.{clean, page_count, dirty, with_bits, assign
 ghost use Rattle.bitmap.specs.Sound.{tracked_paged, tracked_bounded};
 ghost use Rattle.bitmap.specs.Tracked.{loan, fixed, tracked};
 
-use crate::page_bits::PageBits;
-use crate::{Bitmap, CleanBitmap, PageSize};
+use crate::extent::Extent;
+use crate::{Bitmap, CleanBitmap, PageSize, page_bits};
 
 /// One bit a page in 64-bit words: page `n` is bit `n % 64` of word `n / 64`.
 #[derive(Drop)]
 pub struct AtomicBitmap<'a> {
-    bits: PageBits<'a, u64>,
-    // A number, and 0 stands for 1: a `PageSize` was tried, and the checker does not cover a type argument, as that of
-    // `BaseSlice`, that holds a `&mut` and a struct with an invariant. No 0 comes: `new` takes a `PageSize`.
+    map: &'a mut [u64],
+    byte_size: usize,
+    // 0 stands for 1, and never comes. A `PageSize` was tried: the checker covers no `BaseSlice` of a `&mut` beside an invariant.
     page_size: usize,
 }
 
@@ -20,16 +20,13 @@ impl<'a> AtomicBitmap<'a> {
     /// A clean bitmap of `byte_size` bytes, as far as `map` has bits for their pages. The words are cleared.
     pub fn new(byte_size: usize, page_size: PageSize, map: &'a mut [u64]) -> AtomicBitmap<'a>
         ensures means { tracked result ≡ clean page_size.value (page_count byte_size page_size.value (64 * length map.old)) }
-        ensures words { result.bits.words.now ≡ replicate (length map.old) 0 }
+        ensures words { result.map.now ≡ replicate (length map.old) 0 }
         ensures fixed { fixed result ≡ byte_size ∷ loan map.entry }
     {
         map.fill(0);
-        let bits = PageBits {
-            words: map,
-            byte_size,
-        };
         AtomicBitmap {
-            bits,
+            map,
+            byte_size,
             page_size: page_size.get(),
         }
     }
@@ -38,7 +35,7 @@ impl<'a> AtomicBitmap<'a> {
     pub fn is_bit_set(&self, index: usize) -> bool
         ensures { result ≡ dirty (tracked self.now) index }
     {
-        self.bits.is_set(self.page(), index)
+        page_bits::is_set(self.map, self.extent(), index)
     }
 
     /// Whether the bit of the page at address `addr` is set.
@@ -53,8 +50,8 @@ impl<'a> AtomicBitmap<'a> {
         ensures means { tracked self.new ≡ marked (tracked self.old) start_addr len }
         ensures fixed { fixed self.new ≡ fixed self.old }
     {
-        let page_size = self.page();
-        self.bits.assign(page_size, start_addr, len, true)
+        let extent = self.extent();
+        page_bits::assign(self.map, extent, start_addr, len, true)
     }
 
     /// Clears the bits of `len` bytes from `start_addr` on.
@@ -62,8 +59,8 @@ impl<'a> AtomicBitmap<'a> {
         ensures means { tracked self.new ≡ cleaned (tracked self.old) start_addr len }
         ensures fixed { fixed self.new ≡ fixed self.old }
     {
-        let page_size = self.page();
-        self.bits.assign(page_size, start_addr, len, false)
+        let extent = self.extent();
+        page_bits::assign(self.map, extent, start_addr, len, false)
     }
 
     /// Sets bit `index`, unless it is past the last page.
@@ -71,8 +68,8 @@ impl<'a> AtomicBitmap<'a> {
         ensures means { tracked self.new ≡ assigned_page true (tracked self.old) index }
         ensures fixed { fixed self.new ≡ fixed self.old }
     {
-        let page_size = self.page();
-        self.bits.put(page_size, index, true)
+        let extent = self.extent();
+        page_bits::put(self.map, extent, index, true)
     }
 
     /// Clears bit `index`, unless it is past the last page.
@@ -80,26 +77,27 @@ impl<'a> AtomicBitmap<'a> {
         ensures means { tracked self.new ≡ assigned_page false (tracked self.old) index }
         ensures fixed { fixed self.new ≡ fixed self.old }
     {
-        let page_size = self.page();
-        self.bits.put(page_size, index, false)
+        let extent = self.extent();
+        page_bits::put(self.map, extent, index, false)
     }
 
     /// Clears all bits.
     pub fn reset(&mut self)
         ensures means { tracked self.new ≡ with_bits (tracked self.old) (λ n. false) }
-        ensures words { self.new.bits.words.now ≡ replicate (length self.old.bits.words.now) 0 }
+        ensures words { self.new.map.now ≡ replicate (length self.old.map.now) 0 }
         ensures fixed { fixed self.new ≡ fixed self.old }
     {
-        self.bits.words.fill(0);
+        self.map.fill(0);
     }
 
     /// How many pages there are bits for.
     pub fn len(&self) -> usize
         ensures { result ≡ (tracked self.now).count }
     {
-        self.bits.len(self.page())
+        page_bits::len(self.map, self.extent())
     }
 
+    // How large a page is.
     fn page(&self) -> PageSize
         ensures { result.value ≡ (tracked self.now).page }
     {
@@ -108,18 +106,28 @@ impl<'a> AtomicBitmap<'a> {
         }
     }
 
+    // The memory that it was made for.
+    fn extent(&self) -> Extent
+        ensures { (result.byte_size ≡ self.now.byte_size) × (result.page_size.value ≡ (tracked self.now).page) }
+    {
+        Extent {
+            byte_size: self.byte_size,
+            page_size: self.page(),
+        }
+    }
+
     /// The size in bytes that it was made for.
     pub fn byte_size(&self) -> usize
-        ensures { result ≡ self.now.bits.byte_size }
+        ensures { result ≡ self.now.byte_size }
     {
-        self.bits.byte_size
+        self.byte_size
     }
 }
 
 impl<'a> Bitmap for AtomicBitmap<'a> {
     ghost means = { tracked };
 
-    ghost lent = { λ b. loan b.bits.words };
+    ghost lent = { λ b. loan b.map };
 
     ghost paged = { tracked_paged };
 
@@ -127,7 +135,7 @@ impl<'a> Bitmap for AtomicBitmap<'a> {
 
     fn mark_dirty(&mut self, offset: usize, len: usize)
         ensures marks { tracked self.new ≡ marked (tracked self.old) offset len }
-        ensures lent { loan self.new.bits.words ≡ loan self.old.bits.words }
+        ensures lent { loan self.new.map ≡ loan self.old.map }
         ensures fixed { fixed self.new ≡ fixed self.old }
     {
         self.set_addr_range(offset, len)
@@ -153,7 +161,7 @@ impl<'a> CleanBitmap for AtomicBitmap<'a> {
 
     fn reset_addr_range(&mut self, start_addr: usize, len: usize)
         ensures cleans { tracked self.new ≡ cleaned (tracked self.old) start_addr len }
-        ensures lent { loan self.new.bits.words ≡ loan self.old.bits.words }
+        ensures lent { loan self.new.map ≡ loan self.old.map }
         ensures fixed { fixed self.new ≡ fixed self.old }
     {
         AtomicBitmap::reset_addr_range(self, start_addr, len)

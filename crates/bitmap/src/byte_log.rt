@@ -3,8 +3,8 @@ ghost use Rattle.std.specs.Prelude.{◌≡◌};
 ghost use Rattle.bitmap.specs.Sound.{logged_paged, logged_bounded};
 ghost use Rattle.bitmap.specs.Tracked.{loan, over, logged};
 
-use crate::page_bits::PageBits;
-use crate::{Bitmap, CleanBitmap, PageSize};
+use crate::extent::Extent;
+use crate::{Bitmap, CleanBitmap, PageSize, page_bits};
 
 // vhost-user logs pages of this size.
 const LOG_PAGE: PageSize = PageSize { value: 4096 };
@@ -12,47 +12,54 @@ const LOG_PAGE: PageSize = PageSize { value: 4096 };
 /// One bit a page of 4096 bytes: page `n` is bit `n % 8` of byte `n / 8`.
 #[derive(Drop)]
 pub struct ByteLog<'a> {
-    bits: PageBits<'a, u8>,
+    log: &'a mut [u8],
+    byte_size: usize,
 }
 
 impl<'a> ByteLog<'a> {
     /// The log of a memory of `byte_size` bytes, as far as `log` has bits for its pages. Its bytes stay as they are.
     pub fn new(byte_size: usize, log: &'a mut [u8]) -> ByteLog<'a>
         ensures means { logged result ≡ over byte_size 4096 8 log.old }
-        ensures bytes { result.bits.words.now ≡ log.old }
-        ensures lent { loan result.bits.words ≡ loan log.entry }
+        ensures bytes { result.log.now ≡ log.old }
+        ensures lent { loan result.log ≡ loan log.entry }
     {
-        ByteLog {
-            bits: PageBits {
-                words: log,
-                byte_size,
-            },
-        }
+        ByteLog { log, byte_size }
     }
 
     /// How many pages there are bits for.
     pub fn len(&self) -> usize
         ensures { result ≡ (logged self.now).count }
     {
-        self.bits.len(LOG_PAGE)
+        page_bits::len(self.log, self.extent())
+    }
+
+    // The memory that it was made for.
+    fn extent(&self) -> Extent
+        ensures { (result.byte_size ≡ self.now.byte_size) × (result.page_size.value ≡ 4096) }
+    {
+        Extent {
+            byte_size: self.byte_size,
+            page_size: LOG_PAGE,
+        }
     }
 }
 
 impl<'a> Bitmap for ByteLog<'a> {
     ghost means = { logged };
 
-    ghost lent = { λ b. loan b.bits.words };
+    ghost lent = { λ b. loan b.log };
 
     ghost paged = { logged_paged };
 
     ghost bounded = { logged_bounded };
 
     fn mark_dirty(&mut self, offset: usize, len: usize) {
-        self.bits.assign(LOG_PAGE, offset, len, true)
+        let extent = self.extent();
+        page_bits::assign(self.log, extent, offset, len, true)
     }
 
     fn dirty_at(&self, offset: usize) -> bool {
-        self.bits.is_set(LOG_PAGE, offset / LOG_PAGE.get())
+        page_bits::is_set(self.log, self.extent(), offset / LOG_PAGE.get())
     }
 }
 
@@ -70,6 +77,7 @@ impl<'a> CleanBitmap for ByteLog<'a> {
     }
 
     fn reset_addr_range(&mut self, start_addr: usize, len: usize) {
-        self.bits.assign(LOG_PAGE, start_addr, len, false)
+        let extent = self.extent();
+        page_bits::assign(self.log, extent, start_addr, len, false)
     }
 }

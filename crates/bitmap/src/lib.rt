@@ -6,10 +6,10 @@ ghost use Rattle.bitmap.specs.Pages.{Meaning, Paged, Bounded, marked, cleaned, d
 
 mod atomic_bitmap;
 mod byte_log;
+mod extent;
 mod none;
 mod page_bits;
 mod page_size;
-mod range;
 mod share;
 mod slice;
 mod word;

@@ -1,52 +1,45 @@
-//! The bits of a memory's pages, in words that are lent.
+//! One bit a page, in words that are lent: page `n` is bit `n % w` of word `n / w`, where a word has `w` bits.
 ghost use Rattle.std.specs.Prelude.{◌≡◌, ◌*◌, length};
 ghost use Rattle.bitmap.specs.Pages.{page_count, dirty, assigned, assigned_page};
-ghost use Rattle.bitmap.specs.Tracked.{kept, paged};
+ghost use Rattle.bitmap.specs.Tracked.{over_words};
 
-use crate::range::{page_count, page_range};
-use crate::word::word_bits;
-use crate::{PageSize, word};
+use crate::extent::Extent;
+use crate::word;
 use byte_valued::Integer;
 
-/// One bit a page: page `n` is bit `n % w` of word `n / w`, where a word has `w` bits.
-#[derive(Drop)]
-pub(crate) struct PageBits<'a, W> {
-    pub(crate) words: &'a mut [W],
-    pub(crate) byte_size: usize,
+// How many pages there are bits for.
+pub(crate) fn len<W: Integer>(words: &[W], extent: Extent) -> usize
+    ensures { result ≡ page_count extent.byte_size extent.page_size.value (8 * W.WIDTH * length words.now) }
+{
+    extent.page_count(words.len().saturating_mul(word::bits::<W>()))
 }
 
-impl<'a, W: Integer> PageBits<'a, W> {
-    // How many pages there are bits for.
-    pub(crate) fn len(&self, page_size: PageSize) -> usize
-        ensures { result ≡ page_count self.now.byte_size page_size.value (8 * W.WIDTH * length self.now.words.now) }
-    {
-        let bits = self.words.len().saturating_mul(word_bits::<W>());
-        page_count(self.byte_size, page_size, bits)
-    }
+// Whether bit `index` is set; bits past the last page never are.
+pub(crate) fn is_set<W: Integer>(words: &[W], extent: Extent, index: usize) -> bool
+    ensures { result ≡ dirty (over_words W.bits_of extent.byte_size extent.page_size.value (8 * W.WIDTH) words.now) index }
+{
+    index < len(words, extent) && word::get(words, index)
+}
 
-    // Whether bit `index` is set; bits past the last page never are.
-    pub(crate) fn is_set(&self, page_size: PageSize, index: usize) -> bool
-        ensures { result ≡ dirty (paged W.bits_of W.WIDTH page_size.value self.now) index }
-    {
-        index < self.len(page_size) && word::get(self.words, index)
+// Sets or clears bit `index`, unless it is past the last page.
+pub(crate) fn put<W: Integer>(words: &mut [W], extent: Extent, index: usize, on: bool)
+    ensures { over_words W.bits_of extent.byte_size extent.page_size.value (8 * W.WIDTH) words.new ≡ assigned_page on (over_words W.bits_of extent.byte_size extent.page_size.value (8 * W.WIDTH) words.old) index }
+{
+    if index < len(words, extent) {
+        word::put(words, index, on);
     }
+}
 
-    // Sets or clears bit `index`, unless it is past the last page.
-    pub(crate) fn put(&mut self, page_size: PageSize, index: usize, on: bool)
-        ensures means { paged W.bits_of W.WIDTH page_size.value self.new ≡ assigned_page on (paged W.bits_of W.WIDTH page_size.value self.old) index }
-        ensures kept { kept self.new ≡ kept self.old }
-    {
-        if index < self.len(page_size) {
-            word::put(self.words, index, on);
-        }
-    }
-
-    // Sets or clears the bits of the pages of `len` bytes from `start_addr` on.
-    pub(crate) fn assign(&mut self, page_size: PageSize, start_addr: usize, len: usize, on: bool)
-        ensures means { paged W.bits_of W.WIDTH page_size.value self.new ≡ assigned on (paged W.bits_of W.WIDTH page_size.value self.old) start_addr len }
-        ensures kept { kept self.new ≡ kept self.old }
-    {
-        let pages = page_range(page_size, self.len(page_size), start_addr, len);
-        word::assign(self.words, pages, on);
-    }
+// Sets or clears the bits of the pages of `len` bytes from `start_addr` on.
+pub(crate) fn assign<W: Integer>(
+    words: &mut [W],
+    extent: Extent,
+    start_addr: usize,
+    bytes: usize,
+    on: bool,
+)
+    ensures { over_words W.bits_of extent.byte_size extent.page_size.value (8 * W.WIDTH) words.new ≡ assigned on (over_words W.bits_of extent.byte_size extent.page_size.value (8 * W.WIDTH) words.old) start_addr bytes }
+{
+    let pages = extent.page_range(len(words, extent), start_addr, bytes);
+    word::assign(words, pages, on);
 }

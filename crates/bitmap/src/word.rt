@@ -6,7 +6,7 @@ use byte_valued::Integer;
 use std::ops::Range;
 
 // How many bits a word has.
-pub(crate) fn word_bits<W: Integer>() -> usize
+pub(crate) fn bits<W: Integer>() -> usize
     ensures { result ≡ 8 * W.WIDTH }
 {
     8 * W::WIDTH
@@ -17,7 +17,7 @@ pub(crate) fn get<W: Integer>(words: &[W], n: usize) -> bool
     requires { n < 8 * W.WIDTH * length words.now }
     ensures { result ≡ stored (bit W.bits_of) (8 * W.WIDTH) words.now n }
 {
-    let width = word_bits::<W>();
+    let width = bits::<W>();
     get_bit(words[n / width], n % width)
 }
 
@@ -34,7 +34,7 @@ pub(crate) fn put<W: Integer>(words: &mut [W], n: usize, on: bool)
     requires { n < 8 * W.WIDTH * length words.old }
     ensures { (m : ℕ) → stored (bit W.bits_of) (8 * W.WIDTH) words.new m ≡ (if nat_eq m n then on else stored (bit W.bits_of) (8 * W.WIDTH) words.old m) }
 {
-    let width = word_bits::<W>();
+    let width = bits::<W>();
     let word = &mut words[n / width];
     *word = with_bit(*word, n % width, on);
 }

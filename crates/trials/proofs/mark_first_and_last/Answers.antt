@@ -11,6 +11,6 @@ returns c =
     record {
       fits = λ i. search (rules, c.type_inv.log i);
       bits = λ n.
-          let bit : stored bit_of 8 c.mark_dirty-2.new.self.bits.words.now n ≡ (marked (marked (over 40960 4096 8 c.args.log.now) 0 1) 36864 1).bit n = ap (λ b. b.bit n) second in
+          let bit : stored bit_of 8 c.mark_dirty-2.new.self.log.now n ≡ (marked (marked (over 40960 4096 8 c.args.log.now) 0 1) 36864 1).bit n = ap (λ b. b.bit n) second in
           search rules;
     }

@@ -4,8 +4,8 @@ use Rattle.bitmap.proofs.StoredBits.{word_within, stored_read}
 use Rattle.bitmap.proofs.word.get.Given as given
 use Rattle.bitmap.proofs.word.get.Goals as goal
 
-within : (g : given.Over) (c : goal.After-word_bits-width g) → c.args.n / c.word_bits-width.result < length c.args.words.now
-within g c = word_within (bit g.W.Integer.bits_of) (8 * g.W.Integer.WIDTH) (omega (arith, g.W.Integer.laws.some)) _ _ _ c.word_bits-width.ensures c.requires
+within : (g : given.Over) (c : goal.After-bits-width g) → c.args.n / c.bits-width.result < length c.args.words.now
+within g c = word_within (bit g.W.Integer.bits_of) (8 * g.W.Integer.WIDTH) (omega (arith, g.W.Integer.laws.some)) _ _ _ c.bits-width.ensures c.requires
 
 pub bounds-words-n : goal.bounds-words-n
 bounds-words-n = within
@@ -14,4 +14,4 @@ pub offset_bounds-words-n : goal.offset_bounds-words-n
 offset_bounds-words-n g c = let h = within g c in omega arith
 
 pub returns : goal.returns
-returns g c = c.get_bit.ensures ∙ stored_read (bit g.W.Integer.bits_of) (8 * g.W.Integer.WIDTH) (omega (arith, g.W.Integer.laws.some)) _ _ _ _ c.word_bits-width.ensures c.requires c.index-words-n.is
+returns g c = c.get_bit.ensures ∙ stored_read (bit g.W.Integer.bits_of) (8 * g.W.Integer.WIDTH) (omega (arith, g.W.Integer.laws.some)) _ _ _ _ c.bits-width.ensures c.requires c.index-words-n.is
