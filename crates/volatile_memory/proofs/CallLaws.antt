@@ -1,14 +1,14 @@
 -- What the calls that touch memory do, case by case.
 use Rattle.std.proofs.Common.{◌≡◌, ℕ, ◌+◌, ◌<◌, ◌≤◌, min, Bool, true, cond, eqb, ltb, List, [], length, take, sym, ap, ◌∙◌, inl, inr, arith}
-use Rattle.std.proofs.lemmas.Bool.{cases_Bool, le-ltb, cond-true, cond-false, eq-eqb, ne_eqb}
+use Rattle.std.proofs.lemmas.Bool.{cases_Bool, le-ltb, cond-true, cond-false, ne_eqb}
 use Rattle.std.proofs.lemmas.Bool.Decides.{nat_tests}
 use Rattle.bitmap.specs.Pages.{Meaning, place, spans, assigned, marked, with_bits}
-use Rattle.volatile_memory.specs.Calls.{Done, only, lays, moves, laid_at, whole, write, fetched, in_memory, unless_refused, copy_from, copies, copied, after_source, copy_volatile}
-use Rattle.volatile_memory.specs.Faults.{Fault, Answer, partial_buffer}
+use Rattle.volatile_memory.specs.Calls.{Done, only, lays, moves, laid_at, whole, atomic_at, reference_at, loads, guards, write, fetched, in_memory, unless_refused, copy_from, copies, copied, after_source, copy_volatile}
+use Rattle.volatile_memory.specs.Faults.{Fault, Answer, foreign}
 use Rattle.volatile_memory.specs.Faults.Answer.{gives, refuses}
 use Rattle.volatile_memory.specs.Memory.{part, overlaid, joined, elements}
 use Rattle.volatile_memory.specs.Spans.{Span, count}
-use Rattle.volatile_memory.proofs.LaidBytes.{overlaid_nil, overlaid-part}
+use Rattle.volatile_memory.proofs.LaidBytes.{overlaid_nil, overlaid-part, length_part, part-part}
 
 no_page : (page count start n : ℕ) (bit : Bool) → bit ≡ cond (spans page count start 0 n) true bit
 unfolding spans
@@ -23,9 +23,68 @@ marked_nothing b offset i = with_bits b (λ n. no_page b.page b.count (place b o
 pub did_nothing : (m : List ℕ) (b : Meaning) → (m ≡ overlaid m 0 []) × (b ≡ marked b 0 0)
 did_nothing m b = (sym (overlaid_nil m), marked_nothing b 0)
 
+-- the memory was found to hold the view
+pub found_in_memory : (v : Span) (memory : ℕ) → gives 0 ≡ in_memory v memory → v.start + v.size ≤ memory
+found_in_memory v memory is = grind (arith, nat_tests)
+
+-- an answer where the memory is looked at first
+abbrev pub checked : {X : Type 0} → Span → ℕ → Answer X → Answer X
+checked v memory rest = cond (ltb memory (v.start + v.size)) (refuses (foreign (v.start + v.size) memory)) rest
+
+module _ {X : Type 0} (v : Span) (memory : ℕ) (rest : Answer X) where
+  -- a memory that does not hold the view is refused, whatever else is asked
+  pub foreign_first : (f : Fault) → refuses f ≡ in_memory v memory → refuses f ≡ checked v memory rest
+  foreign_first f is = elim (cases_Bool (ltb memory (v.start + v.size))) [
+    | inl e ↦ let same : f ≡ foreign (v.start + v.size) memory = let it = is ∙ cond-true _ _ _ e in cc in ap refuses same ∙ sym (cond-true _ _ _ e)
+    | inr e ↦ let clash = is ∙ cond-false _ _ _ e in cc
+  ]
+
+  -- a memory that holds the view is answered as one that just holds it
+  pub held_first : gives 0 ≡ in_memory v memory → checked v (v.start + v.size) rest ≡ checked v memory rest
+  held_first is =
+      cond-false _ _ _ (le-ltb (v.start + v.size) (v.start + v.size) (omega arith)) ∙ sym (cond-false _ _ _ (le-ltb memory (v.start + v.size) (found_in_memory v memory is)))
+
+module _ (v : Span) (m : List ℕ) (at : ℕ × ℕ) where
+  -- a guard is refused as the memory is
+  pub guard_refused : (f : Fault) → refuses f ≡ guards v m at → refuses f ≡ in_memory v (length m)
+  guard_refused f is = elim (cases_Bool (ltb (length m) (v.start + v.size))) [
+    | inl e ↦ let same : f ≡ foreign (v.start + v.size) (length m) = let it = is ∙ cond-true _ _ _ e in cc in ap refuses same ∙ sym (cond-true _ _ _ e)
+    | inr e ↦ let clash = is ∙ cond-false _ _ _ e in cc
+  ]
+
+  -- and else it is the view's part of the memory
+  pub guarded : (bs : List ℕ) (p : ℕ × ℕ) → gives (bs, p) ≡ guards v m at → (gives 0 ≡ in_memory v (length m)) × (bs ≡ part m v.start v.size) × (length bs ≡ v.size)
+  guarded bs p is = elim (cases_Bool (ltb (length m) (v.start + v.size))) [
+    | inl e ↦ let clash = is ∙ cond-true _ _ _ e in cc
+    | inr e ↦
+        let held : gives 0 ≡ in_memory v (length m) = sym (cond-false _ _ _ e) in
+        let both : ◌≡◌ {A = List ℕ × (ℕ × ℕ)} (bs, p) (part m v.start v.size, (at.0, v.start + at.1)) = let it = is ∙ cond-false _ _ _ e in cc in
+        let same : bs ≡ part m v.start v.size = ap (λ q. q.0) both in (held, same, ap length same ∙ length_part m v.start v.size (found_in_memory v (length m) held))
+  ]
+
+  -- a part of it lies in the memory from the view's start on
+  pub part_guarded : (bs : List ℕ) (p : ℕ × ℕ) (o k : ℕ) → gives (bs, p) ≡ guards v m at → o + k ≤ v.size → part bs o k ≡ part m (v.start + o) k
+  part_guarded bs p o k is fits =
+      let (held, same, long) = guarded bs p is in
+      ap (λ xs. part xs o k) same ∙ part-part m v.start v.size o k fits
+
+  -- an element of it, where a check found it within
+  pub loaded : {X : Type 0} (bs : List ℕ) (p : ℕ × ℕ) (value : List ℕ → X) (o z k : ℕ) (rest : Answer ℕ) → gives (bs, p) ≡ guards v m at → gives k ≡ checked v (v.start + v.size) rest → o + z ≤ v.size → gives (value (part bs o z)) ≡ loads (checked v (length m) rest) (value (part m (v.start + o) z))
+  loaded bs p value o z k rest is given fits =
+      let (held, same, long) = guarded bs p is in
+      ap (λ xs. gives (value xs)) (part_guarded bs p o z is fits) ∙ ap (λ a. loads a (value (part m (v.start + o) z))) (given ∙ held_first v (length m) rest held)
+
 -- what is moved fits
-pub moved_fits : (v : Span) (memory n addr k : ℕ) → gives k ≡ moves v memory n addr → 0 < k → (addr + k ≤ v.size) × (v.start + v.size ≤ memory) × (k ≤ n)
+pub moved_fits : (v : Span) (memory n addr k : ℕ) → gives k ≡ moves v memory n addr → 0 < k → (addr + k ≤ v.size) × (k ≤ n)
 moved_fits v memory n addr k is some = grind (arith, nat_tests)
+
+-- an atomic access is within the view
+pub atomic_fits : (v : Span) (memory z addr : ℕ) → gives 0 ≡ atomic_at v memory z addr → addr + z ≤ v.size
+atomic_fits v memory z addr is = grind (arith, nat_tests)
+
+-- a reference's element is within its view
+pub room_fits : (v : Span) (memory z : ℕ) → gives 0 ≡ reference_at v memory z → 0 + z ≤ v.size
+room_fits v memory z is = grind (arith, nat_tests)
 
 module _ (v : Span) (memory : ℕ) (buf : List ℕ) (addr : ℕ) where
   pub write_refused : (f : Fault) → refuses f ≡ moves v memory (length buf) addr → write v memory buf addr ≡ only (refuses f)
@@ -40,15 +99,9 @@ module _ (v : Span) (memory : ℕ) (buf : List ℕ) (addr : ℕ) where
   unfolding write
   write_some k is some = ap (laid_at v buf addr) (sym is) ∙ cond-false (eqb k 0) _ _ (ne_eqb k 0 (omega arith))
 
--- all of a buffer, or a part of it
-pub whole_refused : (n : ℕ) (f : Fault) (a : Answer ℕ) → refuses f ≡ a → refuses f ≡ whole n a
-whole_refused n f a is = ap (whole n) is
-
-pub whole_short : (n k : ℕ) (a : Answer ℕ) → gives k ≡ a → (k ≡ n → ⊥) → refuses (partial_buffer n k) ≡ whole n a
-whole_short n k a is short = sym (cond-false (eqb k n) _ _ (ne_eqb k n short)) ∙ ap (whole n) is
-
-pub whole_all : (n k : ℕ) (a : Answer ℕ) → gives k ≡ a → k ≡ n → gives 0 ≡ whole n a
-whole_all n k a is all = sym (cond-true (eqb k n) _ _ (eq-eqb k n all)) ∙ ap (whole n) is
+-- where all that was asked for is moved, all of it fits
+pub whole_fits : (v : Span) (memory n addr k : ℕ) → gives k ≡ moves v memory n addr → gives 0 ≡ whole n (gives k) → 0 < n → addr + n ≤ v.size
+whole_fits v memory n addr k is all some = grind (arith, nat_tests)
 
 module _ (v : Span) (memory buf : List ℕ) (addr : ℕ) where
   pub fetched_refused : (f : Fault) → refuses f ≡ moves v (length memory) (length buf) addr → buf ≡ fetched v memory buf addr
@@ -64,10 +117,6 @@ module _ (v : Span) (memory buf : List ℕ) (addr : ℕ) where
       let zero : k ≡ 0 = omega arith in
       rw (fetched_some k is, zero) (sym (overlaid-part memory buf (v.start + addr)))
 
--- the memory was found to hold the view
-pub found_in_memory : (v : Span) (memory : ℕ) → gives 0 ≡ in_memory v memory → v.start + v.size ≤ memory
-found_in_memory v memory is = grind (arith, nat_tests)
-
 module _ (v : Span) (memory z : ℕ) (xs : List (List ℕ)) where
   pub copy_from_refused : (f : Fault) → refuses f ≡ in_memory v memory → copy_from v memory z xs ≡ only (refuses f)
   unfolding copy_from
@@ -79,10 +128,7 @@ module _ (v : Span) (memory z : ℕ) (xs : List (List ℕ)) where
 
 -- where the memory holds the view, that many elements are copied
 pub copies_refused : (v : Span) (memory z n : ℕ) (f : Fault) → refuses f ≡ in_memory v memory → refuses f ≡ copies v memory z n
-copies_refused v memory z n f is = elim (cases_Bool (ltb memory (v.start + v.size))) [
-  | inl e ↦ is ∙ cond-true _ _ _ e ∙ sym (cond-true _ _ _ e)
-  | inr e ↦ let clash = is ∙ cond-false _ _ _ e in cc
-]
+copies_refused v memory z n = foreign_first v memory _
 
 pub copies_some : (v : Span) (memory z n k : ℕ) → k ≡ min n (count v z) → gives 0 ≡ in_memory v memory → gives k ≡ copies v memory z n
 copies_some v memory z n k most is = ap gives most ∙ sym (cond-false _ _ _ (le-ltb memory (v.start + v.size) (found_in_memory v memory is)))

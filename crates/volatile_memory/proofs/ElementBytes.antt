@@ -3,11 +3,12 @@ use Rattle.std.proofs.Common.{◌≡◌, ℕ, ◌+◌, ◌-◌, ◌≤◌, eqb, 
 use Rattle.std.proofs.lemmas.List.{drop_all, take_at}
 use Rattle.std.proofs.lemmas.Bool.{cases_Bool, cond-true, cond-false, le-leb}
 use Rattle.byte_valued.specs.Buffers.{laid, made_of}
-use Rattle.volatile_memory.specs.Calls.{only, lays, unless_refused}
+use Rattle.volatile_memory.specs.Calls.{Done, only, lays, in_memory, unless_refused}
 use Rattle.volatile_memory.specs.Faults.{Fault, Answer}
 use Rattle.volatile_memory.specs.Faults.Answer.{gives, refuses}
 use Rattle.volatile_memory.specs.Memory.{part}
 use Rattle.volatile_memory.specs.Spans.{Span}
+use Rattle.volatile_memory.proofs.CallLaws.{checked, foreign_first, held_first}
 use Rattle.volatile_memory.proofs.LaidBytes.{part_of}
 
 -- a value that was made is the one of the bytes
@@ -18,8 +19,8 @@ made_is z f bs x is =
       | inr e ↦ let none = is ∙ cond-false _ _ _ e in cc
     ]
 
-pub loaded : {X : Type 0} (z r : ℕ) (f : List ℕ → X) (memory : List ℕ) (at : ℕ) (x : X) → r ≡ z → Some x ≡ made_of z f (take (at + r - at) (drop at memory)) → x ≡ f (part memory at z)
-loaded z r f memory at x is made = made_is z f _ x made ∙ ap f (part_of memory at r ∙ ap (part memory at) is)
+pub made-part : {X : Type 0} (z r : ℕ) (f : List ℕ → X) (bs : List ℕ) (at : ℕ) (x : X) → r ≡ z → Some x ≡ made_of z f (take (at + r - at) (drop at bs)) → x ≡ f (part bs at z)
+made-part z r f bs at x is made = made_is z f _ x made ∙ ap f (part_of bs at r ∙ ap (part bs at) is)
 
 -- bytes laid into a buffer of their length are all of it
 pub laid-whole : (bs buf : List ℕ) → length buf ≡ length bs → laid bs buf ≡ bs
@@ -31,9 +32,16 @@ laid_start bs buf k room is =
     let all : k - 0 ≡ k = omega arith in
     rw all (ap (take k) (cond-true _ _ _ (le-leb _ _ room)) ∙ take_at bs (drop (length bs) buf) k is)
 
--- a store that is refused, or lays its bytes: a is its answer as the definition has it, and b as the code found it
-pub store_refused : (v : Span) (o : ℕ) (bs : List ℕ) (f : Fault) (a b : Answer ℕ) → a ≡ b → refuses f ≡ b → unless_refused v o bs a ≡ only (refuses f)
-store_refused v o bs f a b same refused = ap (unless_refused v o bs) (same ∙ sym refused)
+-- an element that is stored, where the memory is looked at first, and then the view
+module _ (v : Span) (memory o : ℕ) (bs : List ℕ) (rest : Answer ℕ) where
+  abbrev stored : Done
+  stored = unless_refused v o bs (checked v memory rest)
 
-pub store-lays : (v : Span) (o : ℕ) (bs : List ℕ) (a b : Answer ℕ) → a ≡ b → gives 0 ≡ b → unless_refused v o bs a ≡ lays v o bs (gives 0)
-store-lays v o bs a b same given = ap (unless_refused v o bs) (same ∙ sym given)
+  pub store_foreign : (f : Fault) → refuses f ≡ in_memory v memory → stored ≡ only (refuses f)
+  store_foreign f is = ap (unless_refused v o bs) (sym (foreign_first v memory rest f is))
+
+  pub store_refused : (f : Fault) → gives 0 ≡ in_memory v memory → refuses f ≡ checked v (v.start + v.size) rest → stored ≡ only (refuses f)
+  store_refused f held is = ap (unless_refused v o bs) (sym (is ∙ held_first v memory rest held))
+
+  pub store-lays : gives 0 ≡ in_memory v memory → gives 0 ≡ checked v (v.start + v.size) rest → stored ≡ lays v o bs (gives 0)
+  store-lays held is = ap (unless_refused v o bs) (sym (is ∙ held_first v memory rest held))

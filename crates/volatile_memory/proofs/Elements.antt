@@ -18,8 +18,7 @@ pub more_elements : (i z r : ℕ) → r ≡ z → i * z + r ≡ (i + 1) * z
 more_elements i z r is = omega (arith, add-mul i 1 z)
 
 -- as many elements as lie in s bytes, and no more than n, end within them
-pub counted_within : (s z r k n : ℕ) → r ≡ z → k ≡ min n (s / r) → k * z ≤ s
-counted_within s z r k n is most =
-    let fewer : k ≤ s / z = rw (← is) (omega arith) in
-    let all : k * z ≤ s / z * z = mul-le-mul_right z fewer in
+pub counted_within : (s z k n : ℕ) → k ≡ min n (s / z) → k * z ≤ s
+counted_within s z k n most =
+    let all : k * z ≤ s / z * z = mul-le-mul_right z (omega arith) in
     omega (arith, div-mul-le_self s z)

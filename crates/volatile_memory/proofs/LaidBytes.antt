@@ -1,10 +1,10 @@
 -- Bytes laid over bytes, as a slice's part is written. Assumes nothing.
-use Rattle.std.proofs.Common.{◌≡◌, ℕ, ◌+◌, ◌-◌, ◌*◌, ◌<◌, ◌≤◌, min, List, [], ◌∷◌, ◌++◌, map, length, get_or, take, drop, sym, refl, ap, ◌∙◌, inl, inr, append_assoc, append-nil, suc-mul, zero-mul, arith, length-append, length-take}
+use Rattle.std.proofs.Common.{◌≡◌, ℕ, zero, suc, ◌+◌, ◌-◌, ◌*◌, ◌<◌, ◌≤◌, min, List, [], ◌∷◌, ◌++◌, map, length, get_or, take, drop, sym, refl, ap, ◌∙◌, inl, inr, append_assoc, append-nil, suc-mul, zero-mul, arith, length-append, length-drop, length-take}
 use borrow.Rule.Slice.PartMut.{put_mid}
-use Rattle.std.proofs.lemmas.List.{drop-drop, take-append-drop, take_at, drop_at, take_all, take-map, map_more}
+use Rattle.std.proofs.lemmas.List.{drop-drop, drop-take, take-take, take-append-drop, take_at, drop_at, drop_all, take_all, take-map, map_more}
 use Rattle.std.proofs.lemmas.Bool.{cases_lt}
-use Rattle.std.specs.List.{AllByRecursion}
-use Rattle.volatile_memory.specs.Memory.{part, overlaid, joined}
+use Rattle.std.specs.List.{AllByRecursion, copy_within}
+use Rattle.volatile_memory.specs.Memory.{part, overlaid, joined, elements}
 
 -- nothing laid is nothing changed
 pub overlaid_nil : {X : Type 0} (xs : List X) → overlaid xs 0 [] ≡ xs
@@ -26,10 +26,50 @@ pub part_of : {X : Type 0} (xs : List X) (i k : ℕ) → take (i + k - i) (drop 
 unfolding part
 part_of xs i k = let e : i + k - i ≡ k = omega arith in rw e
 
+-- how long it is, where it lies within
+pub length_part : {X : Type 0} (xs : List X) (i k : ℕ) → i + k ≤ length xs → length (part xs i k) ≡ k
+unfolding part
+length_part xs i k fits = simp (length-take, length-drop) (omega arith)
+
+-- a part of a part
+pub part-part : {X : Type 0} (xs : List X) (s n i k : ℕ) → i + k ≤ n → part (part xs s n) i k ≡ part xs (s + i) k
+unfolding part
+part-part xs s n i k fits =
+    let more : i + (n - i) ≡ n = omega arith in
+    let front : drop i (take n (drop s xs)) ≡ take (n - i) (drop i (drop s xs)) = ap (λ m. drop i (take m (drop s xs))) (sym more) ∙ drop-take i (n - i) (drop s xs) in
+    ap (take k) front ∙ take-take k (n - i) (drop i (drop s xs)) (omega arith) ∙ ap (take k) (drop-drop i s xs)
+
+-- the start of a part
+pub take-part : {X : Type 0} (xs : List X) (i n k : ℕ) → k ≤ n → take (k - 0) (part xs i n) ≡ part xs i k
+unfolding part
+take-part xs i n k fits = let all : k - 0 ≡ k = omega arith in rw all (take-take k n (drop i xs) fits)
+
+-- elements of a part
+pub elements-part : {X : Type 0} (value : List ℕ → X) (z : ℕ) (xs : List ℕ) (s n k : ℕ) → k * z ≤ n → elements value z (part xs s n) 0 k ≡ elements value z xs s k
+elements-part value z xs s n zero fits = refl
+elements-part value z xs s n (suc k) fits =
+    let within : k * z + z ≤ n = omega (arith, suc-mul k z) in
+    let front : elements value z (part xs s n) 0 k ≡ elements value z xs s k = elements-part value z xs s n k (omega arith) in
+    let last : part (part xs s n) (0 + k * z) z ≡ part xs (s + k * z) z = part-part xs s n (0 + k * z) z (omega arith) ∙ ap (λ i. part xs i z) (omega arith) in
+    ap (λ ys. ys ++ (value (part (part xs s n) (0 + k * z) z) ∷ [])) front ∙ ap (λ y. elements value z xs s k ++ (value y ∷ [])) last
+
+-- bytes moved within a list
+pub moved : {X : Type 0} (xs : List X) (i k to : ℕ) → i + k ≤ length xs → copy_within xs i (i + k) to ≡ overlaid xs to (part xs i k)
+unfolding part overlaid
+moved xs i k to fits =
+    let none : i + k - i ≡ k = omega arith in
+    let long : length (take k (drop i xs)) ≡ k = simp (length-take, length-drop) (omega arith) in
+    rw (none, long) (append_assoc (take to xs) (take k (drop i xs)) (drop (to + k) xs))
+
 -- no bytes laid anywhere
 pub overlaid_none : {X : Type 0} (xs : List X) (i : ℕ) → overlaid xs i [] ≡ xs
 unfolding overlaid
 overlaid_none xs i = let e : i + 0 ≡ i = omega arith in rw e (take-append-drop i xs)
+
+-- as many bytes as there are
+pub overlaid-whole : {X : Type 0} (xs ys : List X) → length ys ≡ length xs → overlaid xs 0 ys ≡ ys
+unfolding overlaid
+overlaid-whole xs ys same = ap (λ n. ys ++ n) (drop_all (0 + length ys) xs (omega arith)) ∙ append-nil ys
 
 -- nor a part of no bytes
 pub overlaid_empty : {X : Type 0} (xs : List X) (i j : ℕ) → overlaid xs i (part xs j 0) ≡ xs

@@ -2,4 +2,3 @@ pub mod Elements
 pub mod LaidBytes
 pub mod CallLaws
 pub mod ElementBytes
-pub mod MovedBytes

@@ -28,8 +28,7 @@ impl Claim {
         ensures answer { said (λ k. k) result ≡ (write (span self.now.slice) (length memory.old) buf.now addr).answer }
         ensures after { memory.new ≡ overlaid memory.old (write (span self.now.slice) (length memory.old) buf.now addr).place (write (span self.now.slice) (length memory.old) buf.now addr).bytes }
     {
-        let mut unmarked = ();
-        self.slice.write(memory, &mut unmarked, buf, addr)
+        self.slice.write(memory, &mut (), buf, addr)
     }
 
     /// Marks all of the view, and ends the claim.

@@ -7,6 +7,8 @@ mod cuts;
 mod elements;
 mod guards;
 
+pub(crate) use elements::element;
+
 /// `size` bytes from `start` on, in a memory whose root lies at `addr`. Marks fall from `mark` on.
 #[derive(Clone, Copy)]
 pub struct VolatileSlice {

@@ -1,5 +1,6 @@
 //! An array as a view, and its elements.
-ghost use Rattle.std.specs.Prelude.{◌≡◌, ◌==◌};
+ghost use Rattle.std.specs.Prelude.{◌≡◌, ◌+◌, ◌*◌, ◌≤◌, ◌==◌, IfOk};
+ghost use Rattle.volatile_memory.specs.Calls.{element_at};
 ghost use Rattle.volatile_memory.specs.Faults.{said};
 ghost use Rattle.volatile_memory.specs.Spans.{span, count, cut_element};
 
@@ -12,8 +13,7 @@ impl<T: ByteValued> VolatileArrayRef<T> {
     pub fn len(&self) -> usize
         ensures { result ≡ count (span self.now.slice) T.ByteValued.size }
     {
-        let bytes = self.slice.len();
-        bytes / T::size_of()
+        self.to_slice().element_count::<T>()
     }
 
     /// Whether it has no elements.
@@ -37,18 +37,24 @@ impl<T: ByteValued> VolatileArrayRef<T> {
         self.slice
     }
 
-    /// Element `index`.
-    pub fn ref_at(&self, index: usize) -> Result<VolatileRef<T>, Error>
-        ensures { said (λ e. span e.slice) result ≡ cut_element (span self.now.slice) T.ByteValued.size index }
+    // Where element `index` starts in the array. Refuses one that it does not have.
+    pub(super) fn element_offset(&self, index: usize) -> Result<usize, Error>
+        ensures answer { said (λ _. 0) result ≡ element_at (span self.now.slice) (self.now.slice.start + self.now.slice.size) T.ByteValued.size index }
+        ensures made { IfOk result (λ o. (o ≡ index * T.ByteValued.size) × (o + T.ByteValued.size ≤ self.now.slice.size)) }
     {
         let count = self.len();
         if index >= count {
             return Err(Error::NoElement { index, count });
         }
-        let size = T::size_of();
-        Ok(VolatileRef {
-            slice: self.slice.part(index * size, size),
-            kind: T::zeroed(),
-        })
+        Ok(index * T::size_of())
+    }
+
+    /// Element `index`.
+    pub fn ref_at(&self, index: usize) -> Result<VolatileRef<T>, Error>
+        ensures { said (λ e. span e.slice) result ≡ cut_element (span self.now.slice) T.ByteValued.size index }
+    {
+        let offset = self.element_offset(index)?;
+        let slice = self.slice.part(offset, T::size_of());
+        Ok(VolatileRef::new(slice))
     }
 }

@@ -7,6 +7,16 @@ use crate::VolatileSlice;
 use byte_valued::ByteValued;
 
 impl<T: ByteValued> VolatileRef<T> {
+    // The element whose bytes are those of `slice`.
+    pub(crate) fn new(slice: VolatileSlice) -> VolatileRef<T>
+        ensures { span result.slice ≡ span slice }
+    {
+        VolatileRef {
+            slice,
+            kind: T::zeroed(),
+        }
+    }
+
     /// How many bytes the element has.
     pub fn len(&self) -> usize
         ensures { result ≡ T.ByteValued.size }

@@ -9,12 +9,24 @@ use super::VolatileSlice;
 use crate::Error;
 use bitmap::Bitmap;
 
+// Refuses a call that moved `completed` bytes, where that is not all of the `expected` ones.
+pub(super) fn check_whole(expected: usize, completed: usize) -> Result<(), Error>
+    ensures { said (λ _. 0) result ≡ whole expected (gives completed) }
+{
+    if completed != expected {
+        return Err(Error::PartialBuffer {
+            expected,
+            completed,
+        });
+    }
+    Ok(())
+}
+
 impl VolatileSlice {
-    // How many of `count` bytes a call at `addr` moves, in a memory of `length` bytes.
-    pub(crate) fn movable(&self, length: usize, count: usize, addr: usize) -> Result<usize, Error>
-        ensures { said (λ k. k) result ≡ moves (span self.now) length count addr }
+    // How many of `count` bytes a call at `addr` moves, in a memory that just holds the view.
+    pub(super) fn movable(&self, count: usize, addr: usize) -> Result<usize, Error>
+        ensures { said (λ k. k) result ≡ moves (span self.now) (self.now.start + self.now.size) count addr }
     {
-        self.check_memory(length)?;
         if count == 0 {
             return Ok(0);
         }
@@ -24,7 +36,8 @@ impl VolatileSlice {
         Ok(count.min(self.size - addr))
     }
 
-    // Lays bytes at `offset`, where they lie within, and marks them.
+    // Lays bytes at `offset`, where they lie within, and marks them. It takes the whole memory, and not the view's part:
+    // the prover has no contract for a function that lends a part of a slice to be written.
     pub(crate) fn lay<B: Bitmap>(
         &self,
         memory: &mut [u8],
@@ -54,7 +67,8 @@ impl VolatileSlice {
         ensures did { Did (write (span self.now) (length memory.old) buf.now addr) memory.old memory.new (B.Bitmap.means bitmap.old) (B.Bitmap.means bitmap.new) }
         ensures lent { B.Bitmap.lent bitmap.new ≡ B.Bitmap.lent bitmap.old }
     {
-        let k = self.movable(memory.len(), buf.len(), addr)?;
+        self.check_memory(memory.len())?;
+        let k = self.movable(buf.len(), addr)?;
         if k > 0 {
             self.lay(memory, bitmap, addr, &buf[0..k]);
         }
@@ -73,15 +87,8 @@ impl VolatileSlice {
         ensures did { Did (write_slice (span self.now) (length memory.old) buf.now addr) memory.old memory.new (B.Bitmap.means bitmap.old) (B.Bitmap.means bitmap.new) }
         ensures lent { B.Bitmap.lent bitmap.new ≡ B.Bitmap.lent bitmap.old }
     {
-        let expected = buf.len();
         let completed = self.write(memory, bitmap, buf, addr)?;
-        if completed != expected {
-            return Err(Error::PartialBuffer {
-                expected,
-                completed,
-            });
-        }
-        Ok(())
+        check_whole(buf.len(), completed)
     }
 
     /// Reads as much into `buf` as there is from `addr` on, and answers how much that was. The rest of `buf` stays.
@@ -89,10 +96,10 @@ impl VolatileSlice {
         ensures answer { said (λ k. k) result ≡ moves (span self.now) (length memory.now) (length buf.old) addr }
         ensures after { buf.new ≡ fetched (span self.now) memory.now buf.old addr }
     {
-        let k = self.movable(memory.len(), buf.len(), addr)?;
+        let bytes = self.ptr_guard(memory)?;
+        let k = self.movable(buf.len(), addr)?;
         if k > 0 {
-            let at = self.start + addr;
-            buf[0..k].copy_from_slice(&memory[at..at + k]);
+            buf[0..k].copy_from_slice(&bytes[addr..addr + k]);
         }
         Ok(k)
     }
@@ -102,14 +109,7 @@ impl VolatileSlice {
         ensures answer { said (λ _. 0) result ≡ whole (length buf.old) (moves (span self.now) (length memory.now) (length buf.old) addr) }
         ensures after { buf.new ≡ fetched (span self.now) memory.now buf.old addr }
     {
-        let expected = buf.len();
         let completed = self.read(memory, buf, addr)?;
-        if completed != expected {
-            return Err(Error::PartialBuffer {
-                expected,
-                completed,
-            });
-        }
-        Ok(())
+        check_whole(buf.len(), completed)
     }
 }

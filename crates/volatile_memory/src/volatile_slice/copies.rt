@@ -6,8 +6,8 @@ ghost use Rattle.volatile_memory.specs.Memory.{overlaid, joined, elements};
 ghost use Rattle.volatile_memory.specs.Spans.{span};
 
 use super::VolatileSlice;
+use super::elements::{element, put_element};
 use crate::Error;
-use crate::moves::move_bytes;
 use bitmap::Bitmap;
 use byte_valued::ByteValued;
 
@@ -23,20 +23,6 @@ impl VolatileSlice {
         Ok(())
     }
 
-    // Lays the bytes of elements one after another, where they lie within.
-    fn lay_elements<T: ByteValued>(&self, memory: &mut [u8], values: &[T])
-        requires in_view { length values.now * T.ByteValued.size ≤ self.now.size }
-        requires in_memory { self.now.start + self.now.size ≤ length memory.old }
-        ensures { memory.new ≡ overlaid memory.old self.now.start (joined (map T.ByteValued.bytes values.now)) }
-    {
-        let mut at = self.start;
-        for value in values {
-            let end = at + T::size_of();
-            let _ = value.write_to(&mut memory[at..end]);
-            at = end;
-        }
-    }
-
     /// Copies as many elements of `buf` as the view has room for to its start.
     pub fn copy_from<T: ByteValued, B: Bitmap>(
         &self,
@@ -50,8 +36,8 @@ impl VolatileSlice {
     {
         self.check_memory(memory.len())?;
         let size = T::size_of();
-        let k = buf.len().min(self.size / size);
-        self.lay_elements(memory, &buf[0..k]);
+        let k = buf.len().min(self.element_count::<T>());
+        lay_elements(&mut memory[self.start..self.start + k * size], &buf[0..k]);
         bitmap.mark_dirty(self.mark, k * size);
         Ok(())
     }
@@ -61,23 +47,32 @@ impl VolatileSlice {
         ensures answer { said (λ k. k) result ≡ copies (span self.now) (length memory.now) T.ByteValued.size (length buf.old) }
         ensures after { buf.new ≡ copied T.ByteValued.value (span self.now) memory.now T.ByteValued.size buf.old }
     {
-        self.check_memory(memory.len())?;
-        let k = buf.len().min(self.size / T::size_of());
-        self.load_elements(memory, &mut buf[0..k]);
+        let bytes = self.ptr_guard(memory)?;
+        let k = buf.len().min(self.element_count::<T>());
+        load_elements(&mut buf[0..k], bytes);
         Ok(k)
     }
+}
 
-    // Loads elements one after another, where they lie within.
-    fn load_elements<T: ByteValued>(&self, memory: &[u8], values: &mut [T])
-        requires in_view { length values.old * T.ByteValued.size ≤ self.now.size }
-        requires in_memory { self.now.start + self.now.size ≤ length memory.now }
-        ensures { values.new ≡ elements T.ByteValued.value T.ByteValued.size memory.now self.now.start (length values.old) }
-    {
-        let mut offset = 0;
-        for value in values.iter_mut() {
-            *value = self.element(memory, offset);
-            offset += T::size_of();
-        }
+// Lays the bytes of elements one after another, which fill `bytes`.
+fn lay_elements<T: ByteValued>(bytes: &mut [u8], values: &[T])
+    requires { length bytes.old ≡ length values.now * T.ByteValued.size }
+    ensures { bytes.new ≡ joined (map T.ByteValued.bytes values.now) }
+{
+    let size = T::size_of();
+    for (i, value) in values.iter().enumerate() {
+        put_element(bytes, i * size, *value);
+    }
+}
+
+// Loads elements that lie one after another.
+fn load_elements<T: ByteValued>(values: &mut [T], bytes: &[u8])
+    requires { length values.old * T.ByteValued.size ≤ length bytes.now }
+    ensures { values.new ≡ elements T.ByteValued.value T.ByteValued.size bytes.now 0 (length values.old) }
+{
+    let size = T::size_of();
+    for (i, value) in values.iter_mut().enumerate() {
+        *value = element(bytes, i * size);
     }
 }
 
@@ -96,7 +91,7 @@ impl VolatileSlice {
         self.check_memory(memory.len())?;
         slice.check_memory(memory.len())?;
         let count = self.size.min(slice.size);
-        move_bytes(memory, self.start, slice.start, count);
+        memory.copy_within(self.start..self.start + count, slice.start);
         bitmap.mark_dirty(slice.mark, count);
         Ok(())
     }
@@ -113,10 +108,10 @@ impl VolatileSlice {
         ensures did { Did (copy_volatile (span self.now) memory.now (span slice.now) (length other.old)) other.old other.new (B.Bitmap.means bitmap.old) (B.Bitmap.means bitmap.new) }
         ensures lent { B.Bitmap.lent bitmap.new ≡ B.Bitmap.lent bitmap.old }
     {
-        self.check_memory(memory.len())?;
+        let bytes = self.ptr_guard(memory)?;
         slice.check_memory(other.len())?;
         let count = self.size.min(slice.size);
-        slice.lay(other, bitmap, 0, &memory[self.start..self.start + count]);
+        slice.lay(other, bitmap, 0, &bytes[0..count]);
         Ok(())
     }
 }

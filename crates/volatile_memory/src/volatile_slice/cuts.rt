@@ -1,26 +1,24 @@
 //! How a view is cut.
 ghost use Rattle.std.specs.Prelude.{◌≡◌, ◌+◌, ◌≤◌, ◌==◌};
 ghost use Rattle.volatile_memory.specs.Faults.{said};
-ghost use Rattle.volatile_memory.specs.Spans.{span, root, end_offset, sub, cut, cut_array, rest, halves};
+ghost use Rattle.volatile_memory.specs.Spans.{span, root, end_offset, sub, cut, cut_array, rest, halves, count};
 
 use super::VolatileSlice;
 use crate::{Error, VolatileArrayRef, VolatileRef};
 use byte_valued::ByteValued;
 
 // As many bytes as an array may have: 2^63 - 1.
-const MAX_ARRAY: usize = 0x7fff_ffff_ffff_ffff;
+const MAX_ARRAY: usize = isize::MAX as usize;
 
 impl VolatileSlice {
     /// The view of a whole memory of `size` bytes, whose first byte has the address `addr`.
     pub fn new(addr: usize, size: usize) -> Result<VolatileSlice, Error>
         ensures { said span result ≡ root addr size }
     {
-        let Some(_) = addr.checked_add(size) else {
-            return Err(Error::Overflow {
-                base: addr,
-                offset: size,
-            });
-        };
+        addr.checked_add(size).ok_or(Error::Overflow {
+            base: addr,
+            offset: size,
+        })?;
         Ok(VolatileSlice {
             addr,
             start: 0,
@@ -36,6 +34,13 @@ impl VolatileSlice {
         self.size
     }
 
+    // How many elements of the kind `T` it has room for.
+    pub(crate) fn element_count<T: ByteValued>(&self) -> usize
+        ensures { result ≡ count (span self.now) T.ByteValued.size }
+    {
+        self.len() / T::size_of()
+    }
+
     /// Whether it has no bytes.
     pub fn is_empty(&self) -> bool
         ensures { result ≡ ((span self.now).size == 0) }
@@ -47,9 +52,9 @@ impl VolatileSlice {
     pub fn compute_end_offset(&self, base: usize, offset: usize) -> Result<usize, Error>
         ensures { said (λ n. n) result ≡ end_offset (span self.now) base offset }
     {
-        let Some(end) = base.checked_add(offset) else {
-            return Err(Error::Overflow { base, offset });
-        };
+        let end = base
+            .checked_add(offset)
+            .ok_or(Error::Overflow { base, offset })?;
         if end > self.size {
             return Err(Error::OutOfBounds { addr: end });
         }
@@ -89,12 +94,10 @@ impl VolatileSlice {
         ensures { said span result ≡ rest (span self.now) count }
     {
         let base = self.addr + self.start;
-        let Some(addr) = base.checked_add(count) else {
-            return Err(Error::Overflow {
-                base,
-                offset: count,
-            });
-        };
+        let addr = base.checked_add(count).ok_or(Error::Overflow {
+            base,
+            offset: count,
+        })?;
         if count > self.size {
             return Err(Error::OutOfBounds { addr });
         }
@@ -116,10 +119,7 @@ impl VolatileSlice {
         ensures { said (λ e. span e.slice) result ≡ cut (span self.now) offset T.ByteValued.size }
     {
         let slice = self.subslice(offset, T::size_of())?;
-        Ok(VolatileRef {
-            slice,
-            kind: T::zeroed(),
-        })
+        Ok(VolatileRef::new(slice))
     }
 
     /// `n` elements of the kind `T` from `offset` on.
@@ -131,12 +131,10 @@ impl VolatileSlice {
         ensures { said (λ a. span a.slice) result ≡ cut_array (span self.now) T.ByteValued.size offset n }
     {
         let size = T::size_of();
-        let Some(nbytes) = n.checked_mul(size) else {
-            return Err(Error::TooBig { nelements: n, size });
-        };
-        if nbytes > MAX_ARRAY {
-            return Err(Error::TooBig { nelements: n, size });
-        }
+        let nbytes = n
+            .checked_mul(size)
+            .filter(|&nbytes| nbytes <= MAX_ARRAY)
+            .ok_or(Error::TooBig { nelements: n, size })?;
         let slice = self.subslice(offset, nbytes)?;
         Ok(VolatileArrayRef {
             slice,

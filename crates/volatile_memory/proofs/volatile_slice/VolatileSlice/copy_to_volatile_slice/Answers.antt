@@ -1,10 +1,10 @@
-use Rattle.std.proofs.Common.{◌≡◌, ◌+◌, min, length, refl, arith}
+use Rattle.std.proofs.Common.{◌≡◌, ◌+◌, min, length, refl, ◌∙◌, arith}
 use Rattle.std.proofs.lemmas.Result.{err_from_is_err_and}
 use Rattle.bitmap.specs.Pages.{wrapped}
 use Rattle.volatile_memory.specs.Memory.{part}
 use Rattle.volatile_memory.specs.Spans.{span}
 use Rattle.volatile_memory.proofs.CallLaws.{did_nothing, found_in_memory, copy_volatile_source, copy_volatile_target, copy_volatile_lays}
-use Rattle.volatile_memory.proofs.MovedBytes.{length_part}
+use Rattle.volatile_memory.proofs.LaidBytes.{length_part, moved}
 use Rattle.volatile_memory.proofs.volatile_slice.VolatileSlice.copy_to_volatile_slice.Goals as goal
 
 pub returns-in_err-check_memory : goal.returns-in_err-check_memory
@@ -30,6 +30,6 @@ returns g c =
     let long : length (part c.args.memory.now u.start (min u.size v.size)) ≡ min u.size v.size = length_part c.args.memory.now u.start (min u.size v.size) (omega arith) in
     rw e (record {
       answer = refl;
-      did = (rw (start, ← c.min-count.ensures) c.move_bytes.ensures, rw (mark, long, ← c.min-count.ensures) c.mark_dirty.ensures.marks);
+      did = (rw (start, ← c.min-count.ensures) (c.copy_within.ensures.after ∙ moved c.args.memory.now u.start c.min-count.result v.start (omega arith)), rw (mark, long, ← c.min-count.ensures) c.mark_dirty.ensures.marks);
       lent = c.mark_dirty.ensures.lent;
     })
