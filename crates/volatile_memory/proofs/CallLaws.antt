@@ -69,13 +69,13 @@ module _ (v : Span) (m : List ℕ) (at : ℕ × ℕ) where
       ap (λ xs. part xs o k) same ∙ part-part m v.start v.size o k fits
 
   -- an element of it, where a check found it within
-  pub loaded : {X : Type 0} (bs : List ℕ) (p : ℕ × ℕ) (value : List ℕ → X) (o z k : ℕ) (rest : Answer ℕ) → gives (bs, p) ≡ guards v m at → gives k ≡ checked v (v.start + v.size) rest → o + z ≤ v.size → gives (value (part bs o z)) ≡ loads (checked v (length m) rest) (value (part m (v.start + o) z))
-  loaded bs p value o z k rest is given fits =
+  pub element_given : {X : Type 0} (bs : List ℕ) (p : ℕ × ℕ) (value : List ℕ → X) (o z k : ℕ) (rest : Answer ℕ) → gives (bs, p) ≡ guards v m at → gives k ≡ checked v (v.start + v.size) rest → o + z ≤ v.size → gives (value (part bs o z)) ≡ loads (checked v (length m) rest) (value (part m (v.start + o) z))
+  element_given bs p value o z k rest is given fits =
       let (held, same, long) = guarded bs p is in
       ap (λ xs. gives (value xs)) (part_guarded bs p o z is fits) ∙ ap (λ a. loads a (value (part m (v.start + o) z))) (given ∙ held_first v (length m) rest held)
 
 -- what is moved fits
-pub moved_fits : (v : Span) (memory n addr k : ℕ) → gives k ≡ moves v memory n addr → 0 < k → (addr + k ≤ v.size) × (k ≤ n)
+pub moved_fits : (v : Span) (memory n addr k : ℕ) → gives k ≡ moves v memory n addr → 0 < k → (addr + k ≤ v.size) × (v.start + v.size ≤ memory) × (k ≤ n)
 moved_fits v memory n addr k is some = grind (arith, nat_tests)
 
 -- an atomic access is within the view

@@ -19,8 +19,8 @@ made_is z f bs x is =
       | inr e ↦ let none = is ∙ cond-false _ _ _ e in cc
     ]
 
-pub made-part : {X : Type 0} (z r : ℕ) (f : List ℕ → X) (bs : List ℕ) (at : ℕ) (x : X) → r ≡ z → Some x ≡ made_of z f (take (at + r - at) (drop at bs)) → x ≡ f (part bs at z)
-made-part z r f bs at x is made = made_is z f _ x made ∙ ap f (part_of bs at r ∙ ap (part bs at) is)
+pub loaded : {X : Type 0} (z r : ℕ) (f : List ℕ → X) (memory : List ℕ) (at : ℕ) (x : X) → r ≡ z → Some x ≡ made_of z f (take (at + r - at) (drop at memory)) → x ≡ f (part memory at z)
+loaded z r f memory at x is made = made_is z f _ x made ∙ ap f (part_of memory at r ∙ ap (part memory at) is)
 
 -- bytes laid into a buffer of their length are all of it
 pub laid-whole : (bs buf : List ℕ) → length buf ≡ length bs → laid bs buf ≡ bs

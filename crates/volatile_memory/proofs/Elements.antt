@@ -1,21 +1,11 @@
 -- Elements in a row: where each lies. Assumes nothing.
-use Rattle.std.proofs.Common.{◌≡◌, ℕ, ◌+◌, ◌*◌, ◌/◌, ◌<◌, ◌≤◌, min, mul-le-mul_right, add-mul, le-div_iff_mul-le, div-mul-le_self, arith}
-
--- element i of those that lie in s bytes ends within them, where r is their size as the code has it
-pub element_within : (s z r i : ℕ) → 0 < z → r ≡ z → i < s / z → i * r + r ≤ s
-element_within s z r i some is h =
-    let all : (i + 1) * z ≤ s = (le-div_iff_mul-le some).0 (omega arith) in
-    rw is (omega (arith, add-mul i 1 z))
+use Rattle.std.proofs.Common.{◌≡◌, ℕ, ◌+◌, ◌*◌, ◌/◌, ◌<◌, ◌≤◌, min, mul-le-mul_right, add-mul, div-mul-le_self, arith}
 
 -- element i of n ends within all of them
 pub next_element : (i n z : ℕ) → i < n → i * z + z ≤ n * z
 next_element i n z h =
     let all : (i + 1) * z ≤ n * z = mul-le-mul_right z (omega arith) in
     omega (arith, add-mul i 1 z)
-
--- one element more
-pub more_elements : (i z r : ℕ) → r ≡ z → i * z + r ≡ (i + 1) * z
-more_elements i z r is = omega (arith, add-mul i 1 z)
 
 -- as many elements as lie in s bytes, and no more than n, end within them
 pub counted_within : (s z k n : ℕ) → k ≡ min n (s / z) → k * z ≤ s

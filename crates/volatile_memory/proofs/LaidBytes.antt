@@ -71,11 +71,6 @@ pub overlaid-whole : {X : Type 0} (xs ys : List X) → length ys ≡ length xs �
 unfolding overlaid
 overlaid-whole xs ys same = ap (λ n. ys ++ n) (drop_all (0 + length ys) xs (omega arith)) ∙ append-nil ys
 
--- nor a part of no bytes
-pub overlaid_empty : {X : Type 0} (xs : List X) (i j : ℕ) → overlaid xs i (part xs j 0) ≡ xs
-unfolding part
-overlaid_empty xs i j = overlaid_none xs i
-
 -- bytes laid behind bytes
 pub overlaid_next : {X : Type 0} (m xs ys : List X) (s at : ℕ) → at ≡ s + length xs → at + length ys ≤ length m → overlaid (overlaid m s xs) at ys ≡ overlaid m s (xs ++ ys)
 unfolding overlaid

@@ -1,7 +1,7 @@
 use Rattle.std.proofs.Common.{◌+◌, ap, ◌∙◌}
 use Rattle.volatile_memory.specs.Faults.Answer.{gives}
 use Rattle.volatile_memory.specs.Spans.{span}
-use Rattle.volatile_memory.proofs.CallLaws.{guarded, loaded, room_fits}
+use Rattle.volatile_memory.proofs.CallLaws.{guarded, element_given, room_fits}
 use Rattle.volatile_memory.proofs.volatile_ref.VolatileRef.load.Goals as goal
 
 pub element-requires : goal.element-requires
@@ -15,4 +15,4 @@ returns g c =
     let v = span c.args.self.now.slice in
     let size = g.T.ByteValued.size in
     let fits = room_fits v (v.start + v.size) size c.in_ok-check_room.ensures in
-    ap gives c.element.ensures ∙ loaded v c.args.memory.now c.args.memory.ref_ptr _ _ g.T.ByteValued.value 0 size 0 _ c.in_ok-bytes.ensures c.in_ok-check_room.ensures fits
+    ap gives c.element.ensures ∙ element_given v c.args.memory.now c.args.memory.ref_ptr _ _ g.T.ByteValued.value 0 size 0 _ c.in_ok-bytes.ensures c.in_ok-check_room.ensures fits

@@ -2,11 +2,8 @@ use Rattle.std.proofs.Common.{◌+◌, ◌-◌, length, arith}
 use Rattle.volatile_memory.proofs.LaidBytes.{overlaid_put}
 use Rattle.volatile_memory.proofs.volatile_slice.VolatileSlice.lay.Goals as goal
 
-pub returns : goal.returns
-returns g c =
+pub returns-clause-did : goal.returns-clause-did
+returns-clause-did g c =
     let at = c.args.self.now.start + c.args.offset in
     let k = at + length c.args.bytes.now - at in
-    record {
-      did = (rw c.copy_from_slice.ensures.after (overlaid_put c.args.memory.now c.args.bytes.now at k (omega arith)), c.mark_dirty.ensures.marks);
-      lent = c.mark_dirty.ensures.lent;
-    }
+    (rw c.copy_from_slice.ensures.after (overlaid_put c.args.memory.now c.args.bytes.now at k (omega arith)), c.mark_dirty.ensures.marks)

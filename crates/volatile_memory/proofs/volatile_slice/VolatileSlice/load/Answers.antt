@@ -1,7 +1,7 @@
 use Rattle.std.proofs.Common.{◌+◌, ap, ◌∙◌}
 use Rattle.volatile_memory.specs.Faults.Answer.{gives}
 use Rattle.volatile_memory.specs.Spans.{span}
-use Rattle.volatile_memory.proofs.CallLaws.{guarded, loaded, atomic_fits}
+use Rattle.volatile_memory.proofs.CallLaws.{guarded, element_given, atomic_fits}
 use Rattle.volatile_memory.proofs.volatile_slice.VolatileSlice.load.Goals as goal
 
 pub element-requires : goal.element-requires
@@ -15,4 +15,4 @@ returns g c =
     let v = span c.args.self.now in
     let given = rw c.alignment.ensures at c.in_ok-check_atomic.ensures in
     let fits = atomic_fits v (v.start + v.size) g.T.ByteValued.size c.args.addr given in
-    ap gives c.element.ensures ∙ loaded v c.args.memory.now c.args.memory.ref_ptr _ _ g.T.ByteValued.value c.args.addr g.T.ByteValued.size 0 _ c.in_ok-bytes.ensures given fits
+    ap gives c.element.ensures ∙ element_given v c.args.memory.now c.args.memory.ref_ptr _ _ g.T.ByteValued.value c.args.addr g.T.ByteValued.size 0 _ c.in_ok-bytes.ensures given fits
