@@ -3,6 +3,14 @@ use bitmap::{AtomicBitmap, BaseSlice, Bitmap, ByteLog, CleanBitmap, PageSize, di
 use byte_valued::{AtomicAccess, ByteValued, LineHead};
 use std::test::Fail;
 
+// A page size that a test is run with.
+pub fn page_size(bytes: usize) -> Result<PageSize, Fail> {
+    match PageSize::new(bytes) {
+        Some(size) => Ok(size),
+        None => Err(Fail::new("no page size")),
+    }
+}
+
 // The dirty pages of a bitmap as the bits of a number, page 0 the lowest.
 fn pages<B: CleanBitmap>(b: &B) -> u64 {
     let mut found = 0;
@@ -65,9 +73,7 @@ fn a_line_head_is_twelve_bytes(rt: HostRuntime) {
 
 #[test]
 fn ranges_of_an_atomic_bitmap(rt: HostRuntime) -> Result<(), Fail> {
-    let Some(page) = PageSize::new(128) else {
-        return Err(Fail::new("no page size"));
-    };
+    let page = page_size(128)?;
     let mut words = [!0; 2];
     let mut b = AtomicBitmap::new(1024, page, &mut words);
     assert_eq!(rt; (b.len(), b.byte_size(), pages(&b)), (8, 1024, 0));
@@ -97,9 +103,7 @@ fn ranges_of_an_atomic_bitmap(rt: HostRuntime) -> Result<(), Fail> {
 
 #[test]
 fn a_slice_at_the_top_wraps_its_start_only(rt: HostRuntime) -> Result<(), Fail> {
-    let Some(page) = PageSize::new(128) else {
-        return Err(Fail::new("no page size"));
-    };
+    let page = page_size(128)?;
     let mut words = [0];
     let mut s = AtomicBitmap::new(1025, page, &mut words).slice_at(usize::MAX);
     assert_eq!(rt; s.page_count(), 9);
@@ -128,9 +132,7 @@ fn a_log_keeps_its_bytes(rt: HostRuntime) {
 
 #[test]
 fn few_words_make_few_pages(rt: HostRuntime) -> Result<(), Fail> {
-    let Some(page) = PageSize::new(1) else {
-        return Err(Fail::new("no page size"));
-    };
+    let page = page_size(1)?;
     let mut words = [0];
     let mut b = AtomicBitmap::new(1000, page, &mut words);
     assert_eq!(rt; b.len(), 64);

@@ -1,6 +1,7 @@
 //! Views of a root of 10,000 bytes at the address 4096, with three pages of 4096.
-use bitmap::{AtomicBitmap, PageSize};
-use byte_valued::LineHead;
+use crate::tests::page_size;
+use bitmap::AtomicBitmap;
+use byte_valued::{ByteValued, LineHead};
 use std::alloc::{AllocError, Global};
 use std::test::Fail;
 use volatile_memory::{Error, VolatileArrayRef, VolatileRef, VolatileSlice};
@@ -48,9 +49,7 @@ fn cuts_are_refused_as_they_should(rt: HostRuntime) -> Result<(), Fail> {
 #[test]
 fn bytes_are_written_and_read(rt: HostRuntime) -> Result<(), Fail> {
     let mut memory = zeros(rt.alloc())?;
-    let Some(page) = PageSize::new(4096) else {
-        return Err(Fail::new("no page size"));
-    };
+    let page = page_size(4096)?;
     let mut words = [0];
     let mut bitmap = AtomicBitmap::new(10000, page, &mut words);
     let root = VolatileSlice::new(4096, 10000)?;
@@ -91,9 +90,7 @@ fn bytes_are_written_and_read(rt: HostRuntime) -> Result<(), Fail> {
 #[test]
 fn elements_are_stored_and_loaded(rt: HostRuntime) -> Result<(), Fail> {
     let mut memory = zeros(rt.alloc())?;
-    let Some(page) = PageSize::new(4096) else {
-        return Err(Fail::new("no page size"));
-    };
+    let page = page_size(4096)?;
     let mut words = [0];
     let mut bitmap = AtomicBitmap::new(10000, page, &mut words);
     let root = VolatileSlice::new(4096, 10000)?;
@@ -134,9 +131,7 @@ fn elements_are_stored_and_loaded(rt: HostRuntime) -> Result<(), Fail> {
 #[test]
 fn elements_are_copied(rt: HostRuntime) -> Result<(), Fail> {
     let mut memory = zeros(rt.alloc())?;
-    let Some(page) = PageSize::new(4096) else {
-        return Err(Fail::new("no page size"));
-    };
+    let page = page_size(4096)?;
     let mut words = [0];
     let mut bitmap = AtomicBitmap::new(10000, page, &mut words);
     let root = VolatileSlice::new(4096, 10000)?;
@@ -149,13 +144,7 @@ fn elements_are_copied(rt: HostRuntime) -> Result<(), Fail> {
     };
     let view = root.subslice(4080, 100)?;
     view.copy_from(&mut memory, &mut bitmap, &[head; 9])?;
-    let mut heads = [LineHead {
-        register: 0,
-        leaf: 0,
-        line: 0,
-        left: 0,
-        width: 0,
-    }; 9];
+    let mut heads = [LineHead::zeroed(); 9];
     assert_eq!(rt; view.copy_to(&memory, &mut heads), Ok(8));
     assert_eq!(rt; heads[7], head);
     assert_eq!(rt; heads[8].register, 0);
