@@ -54,7 +54,8 @@ impl VolatileSlice {
     }
 }
 
-// Lays the bytes of elements one after another, which fill `bytes`.
+// Lays the bytes of elements one after another, which fill `bytes`. Each place is said by its index, here and below:
+// what is written through `chunks_exact_mut`, or through `iter_mut` in a `zip`, is not known to a proof afterwards.
 fn lay_elements<T: ByteValued>(bytes: &mut [u8], values: &[T])
     requires { length bytes.old ≡ length values.now * T.ByteValued.size }
     ensures { bytes.new ≡ joined (map T.ByteValued.bytes values.now) }

@@ -1,4 +1,4 @@
-use Rattle.std.proofs.Common.{◌*◌, ap, ◌∙◌}
+use Rattle.std.proofs.Common.{◌*◌, ap, ◌∙◌, arith}
 use Rattle.volatile_memory.specs.Faults.Answer.{gives}
 use Rattle.volatile_memory.specs.Spans.{span}
 use Rattle.volatile_memory.proofs.CallLaws.{guarded, element_given}
@@ -7,7 +7,7 @@ use Rattle.volatile_memory.proofs.volatile_array_ref.VolatileArrayRef.load.Goals
 pub element-requires : goal.element-requires
 element-requires g c =
     let (held, same, long) = guarded (span c.args.self.now.slice) c.args.memory.now c.args.memory.ref_ptr _ _ c.in_ok-bytes.ensures in
-    rw long c.in_ok-offset.ensures.made.1
+    omega (arith, c.in_ok-offset.ensures.made.1)
 
 pub returns : goal.returns
 returns g c =

@@ -1,4 +1,4 @@
-use Rattle.std.proofs.Common.{◌+◌, ap, ◌∙◌}
+use Rattle.std.proofs.Common.{◌+◌, ap, ◌∙◌, arith}
 use Rattle.volatile_memory.specs.Faults.Answer.{gives}
 use Rattle.volatile_memory.specs.Spans.{span}
 use Rattle.volatile_memory.proofs.CallLaws.{guarded, element_given, room_fits}
@@ -8,7 +8,7 @@ pub element-requires : goal.element-requires
 element-requires g c =
     let v = span c.args.self.now.slice in
     let (held, same, long) = guarded v c.args.memory.now c.args.memory.ref_ptr _ _ c.in_ok-bytes.ensures in
-    rw long (room_fits v (v.start + v.size) g.T.ByteValued.size c.in_ok-check_room.ensures)
+    omega (arith, room_fits v (v.start + v.size) g.T.ByteValued.size c.in_ok-check_room.ensures)
 
 pub returns : goal.returns
 returns g c =

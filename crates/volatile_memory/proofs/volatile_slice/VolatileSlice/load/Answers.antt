@@ -1,4 +1,4 @@
-use Rattle.std.proofs.Common.{◌+◌, ap, ◌∙◌}
+use Rattle.std.proofs.Common.{◌+◌, ap, ◌∙◌, arith}
 use Rattle.volatile_memory.specs.Faults.Answer.{gives}
 use Rattle.volatile_memory.specs.Spans.{span}
 use Rattle.volatile_memory.proofs.CallLaws.{guarded, element_given, atomic_fits}
@@ -8,7 +8,7 @@ pub element-requires : goal.element-requires
 element-requires g c =
     let v = span c.args.self.now in
     let (held, same, long) = guarded v c.args.memory.now c.args.memory.ref_ptr _ _ c.in_ok-bytes.ensures in
-    rw long (atomic_fits v (v.start + v.size) g.T.ByteValued.size c.args.addr (rw c.alignment.ensures at c.in_ok-check_atomic.ensures))
+    omega (arith, atomic_fits v (v.start + v.size) g.T.ByteValued.size c.args.addr (rw c.alignment.ensures at c.in_ok-check_atomic.ensures))
 
 pub returns : goal.returns
 returns g c =
