@@ -1,5 +1,5 @@
 -- Parcels: the dirty pages of a memory as bytes, and those bytes laid into a copy. Assumes nothing.
-use Rattle.std.specs.Prelude.{ℕ, zero, suc, ◌+◌, ◌-◌, ◌*◌, min, Bool, false, cond, not, ◌&&◌, ◌||◌, List, [], ◌∷◌, ◌++◌, map, length, take, drop, ◌==◌, nat_le, nat_lt}
+use Rattle.std.specs.Prelude.{ℕ, zero, suc, ◌+◌, ◌-◌, ◌*◌, min, Bool, false, cond, not, ◌&&◌, ◌||◌, List, [], ◌∷◌, ◌++◌, map, length, take, drop, ◌==◌, nat_le, nat_lt, if◌then◌else◌, Some, None, Option}
 use Rattle.byte_valued.specs.LittleEndian.{bytes_of, number_of}
 use Rattle.bitmap.specs.Pages.{Meaning, top, ceiling, dirty, with_bits}
 use Rattle.volatile_memory.specs.Faults.{Answer, uncovered, no_room, bad_parcel}
@@ -61,6 +61,10 @@ swept b memory = with_bits b (λ n. cond (nat_lt n (pages (length memory) b.page
 -- number i of a parcel's numbers
 abbrev pub number_at : List ℕ → ℕ → ℕ
 number_at bs i = number_of (part bs (i * 8) 8)
+
+-- the number of page i that a parcel carries: absent past the pages that it says it has, and past its bytes
+abbrev pub page_number : List ℕ → ℕ → Option ℕ
+page_number bs i = if nat_lt i (number_at bs 1) && nat_le (24 + 8 * (i + 1)) (length bs) then Some (number_at bs (3 + i)) else None
 
 -- k numbers from the i-th on
 abbrev pub numbers : List ℕ → ℕ → ℕ → List ℕ

@@ -8,7 +8,7 @@ ghost use Rattle.parcel.specs.Rules.{head_rules, length_rule, rules, Below};
 
 use crate::layout::Layout;
 use crate::numbers::{lay, number_at};
-use volatile_memory::Error;
+use volatile_memory::{Error, Rule};
 
 // A parcel's head has to fit a copy of `total` bytes.
 fn check_head(parcel: &[u8], total: usize) -> Result<(), Error>
@@ -16,21 +16,30 @@ fn check_head(parcel: &[u8], total: usize) -> Result<(), Error>
 {
     if parcel.len() < 24 {
         return Err(Error::BadParcel {
-            rule: 1,
+            rule: Rule::ShortHead,
             place: parcel.len(),
         });
     }
     let page = number_at(parcel, 0);
     if page == 0 {
-        return Err(Error::BadParcel { rule: 2, place: 0 });
+        return Err(Error::BadParcel {
+            rule: Rule::NoPageSize,
+            place: 0,
+        });
     }
     if number_at(parcel, 2) != total {
-        return Err(Error::BadParcel { rule: 3, place: 16 });
+        return Err(Error::BadParcel {
+            rule: Rule::OtherLength,
+            place: 16,
+        });
     }
     let count = number_at(parcel, 1);
     let layout = Layout { page, total };
     if layout.count() < count || (parcel.len() - 24) / 8 < count {
-        return Err(Error::BadParcel { rule: 4, place: 8 });
+        return Err(Error::BadParcel {
+            rule: Rule::TooManyPages,
+            place: 8,
+        });
     }
     Ok(())
 }
@@ -54,7 +63,7 @@ fn check_numbers(parcel: &[u8], layout: Layout, count: usize) -> Result<usize, E
         let q = number_at(parcel, 3 + i);
         if !is_right(q, low, pages) {
             return Err(Error::BadParcel {
-                rule: 5,
+                rule: Rule::WrongPage,
                 place: (3 + i) * 8,
             });
         }
@@ -72,7 +81,7 @@ fn check_length(total: usize, head: usize, bytes: usize) -> Result<(), Error>
     let rest = total - head;
     if rest != bytes {
         return Err(Error::BadParcel {
-            rule: 6,
+            rule: Rule::WrongLength,
             place: head + rest.min(bytes),
         });
     }

@@ -1,6 +1,7 @@
 //! What a parcel says of itself.
 ghost use Rattle.std.specs.Prelude.{◌≡◌, length};
 ghost use Rattle.volatile_memory.specs.Faults.{said};
+ghost use Rattle.parcel.specs.Parcels.{page_number};
 ghost use Rattle.parcel.specs.Rules.{inspected, told_length};
 
 use crate::applying::check_parcel;
@@ -36,4 +37,16 @@ pub fn inspect(parcel: &[u8]) -> Result<Contents, Error>
         pages: number_at(parcel, 1),
         total,
     })
+}
+
+/// The number of the `index`-th page that a parcel carries: absent past the pages that the parcel says it has, and past
+/// its bytes.
+pub fn page_number(parcel: &[u8], index: usize) -> Option<usize>
+    ensures { result ≡ page_number parcel.now index }
+{
+    let numbers = parcel.get(24..)?;
+    if index >= number_at(parcel, 1) || index >= numbers.len() / 8 {
+        return None;
+    }
+    Some(number_at(parcel, 3 + index))
 }

@@ -11,5 +11,5 @@ mod numbers;
 mod taking;
 
 pub use applying::apply;
-pub use inspecting::{Contents, inspect};
+pub use inspecting::{Contents, inspect, page_number};
 pub use taking::{Taken, take};

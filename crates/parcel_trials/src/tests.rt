@@ -2,7 +2,7 @@
 use bitmap::{AtomicBitmap, BaseSlice, PageSize};
 use parcel::{Contents, Taken, apply, inspect, take};
 use std::test::Fail;
-use volatile_memory::{Error, VolatileSlice};
+use volatile_memory::{Error, Rule, VolatileSlice};
 
 // The parcel of pages 0 and 2 of the bytes 1, 0, .., 0, 2.
 const TWO_PAGES: [u8; 46] = [
@@ -105,7 +105,10 @@ fn a_parcel_is_applied(rt: HostRuntime) -> Result<(), Fail> {
     );
     assert_eq!(rt;
         inspect(&TWO_PAGES[0..45]),
-        Err(Error::BadParcel { rule: 6, place: 45 })
+        Err(Error::BadParcel {
+            rule: Rule::WrongLength,
+            place: 45,
+        })
     );
     Ok(())
 }
@@ -123,35 +126,39 @@ fn refusal(parcel: &[u8]) -> Option<Error> {
     apply(&mut [8; 10], parcel).err()
 }
 
-fn broken(rule: usize, place: usize) -> Option<Error> {
+fn broken(rule: Rule, place: usize) -> Option<Error> {
     Some(Error::BadParcel { rule, place })
 }
 
 #[test]
 fn a_bad_parcel_is_refused_by_the_first_rule_it_breaks(rt: HostRuntime) {
-    assert_eq!(rt; refusal(&TWO_PAGES[0..23]), broken(1, 23));
-    assert_eq!(rt; refusal(&changed(0, 0)), broken(2, 0));
-    assert_eq!(rt; refusal(&changed(16, 9)), broken(3, 16));
+    assert_eq!(rt; refusal(&TWO_PAGES[0..23]), broken(Rule::ShortHead, 23));
+    assert_eq!(rt; refusal(&changed(0, 0)), broken(Rule::NoPageSize, 0));
+    assert_eq!(rt; refusal(&changed(16, 9)), broken(Rule::OtherLength, 16));
     assert_eq!(rt;
         refusal(&changed(8, 4)),
-        broken(4, 8),
+        broken(Rule::TooManyPages, 8),
         "four pages of three"
     );
     assert_eq!(rt;
         refusal(&TWO_PAGES[0..39]),
-        broken(4, 8),
+        broken(Rule::TooManyPages, 8),
         "no second number"
     );
-    assert_eq!(rt; refusal(&changed(24, 3)), broken(5, 24), "no such page");
+    assert_eq!(rt;
+        refusal(&changed(24, 3)),
+        broken(Rule::WrongPage, 24),
+        "no such page"
+    );
     assert_eq!(rt;
         refusal(&changed(32, 0)),
-        broken(5, 32),
+        broken(Rule::WrongPage, 32),
         "twice the same page"
     );
-    assert_eq!(rt; refusal(&TWO_PAGES[0..45]), broken(6, 45));
+    assert_eq!(rt; refusal(&TWO_PAGES[0..45]), broken(Rule::WrongLength, 45));
     assert_eq!(rt;
         refusal(&changed(8, 1)),
-        broken(6, 36),
+        broken(Rule::WrongLength, 36),
         "one page, and bytes of two"
     );
 }

@@ -1,6 +1,8 @@
 -- What a call answers: a result, or a fault by its number and values. Assumes nothing.
 use Rattle.std.specs.Prelude.{ℕ, List, [], ◌∷◌, Ok, Err, Result}
 use Rattle.volatile_memory.specs.declared.error.Error.{Error}
+use Rattle.volatile_memory.specs.declared.error.Rule.{Rule}
+use Rattle.volatile_memory.specs.declared.error.Rule.TheVariants.{ShortHead, NoPageSize, OtherLength, TooManyPages, WrongPage, WrongLength}
 use Rattle.volatile_memory.specs.declared.error.Error.TheVariants.{OutOfBounds, Overflow, TooBig, Misaligned, PartialBuffer, NoElement, Foreign, Uncovered, NoRoom, BadParcel}
 
 pub record Fault : Type 0 where
@@ -41,6 +43,15 @@ no_room needed = record { number = 9; values = needed ∷ [] }
 abbrev pub bad_parcel : ℕ → ℕ → Fault
 bad_parcel rule place = record { number = 10; values = rule ∷ place ∷ [] }
 
+-- the rules for parcels, by their numbers
+abbrev pub rule_number : Rule → ℕ
+rule_number ShortHead = 1
+rule_number NoPageSize = 2
+rule_number OtherLength = 3
+rule_number TooManyPages = 4
+rule_number WrongPage = 5
+rule_number WrongLength = 6
+
 -- every case of the code's errors, by its number and values
 abbrev pub fault : Error → Fault
 fault (OutOfBounds addr) = out_of_bounds addr
@@ -52,7 +63,7 @@ fault (NoElement index count) = no_element index count
 fault (Foreign end length) = foreign end length
 fault (Uncovered needed pages) = uncovered needed pages
 fault (NoRoom needed) = no_room needed
-fault (BadParcel rule place) = bad_parcel rule place
+fault (BadParcel rule place) = bad_parcel (rule_number rule) place
 
 -- what a call answered, with its result read by f
 abbrev pub said : {X Y : Type 0} → (X → Y) → Result X Error → Answer Y

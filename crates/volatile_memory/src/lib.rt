@@ -9,7 +9,7 @@ mod volatile_ref;
 mod volatile_slice;
 
 pub use claim::Claim;
-pub use error::Error;
+pub use error::{Error, Rule};
 pub use volatile_array_ref::VolatileArrayRef;
 pub use volatile_ref::VolatileRef;
 pub use volatile_slice::VolatileSlice;
