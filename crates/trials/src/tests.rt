@@ -5,10 +5,7 @@ use std::test::Fail;
 
 // A page size that a test is run with.
 pub fn page_size(bytes: usize) -> Result<PageSize, Fail> {
-    match PageSize::new(bytes) {
-        Some(size) => Ok(size),
-        None => Err(Fail::new("no page size")),
-    }
+    PageSize::new(bytes).ok_or_else(|| Fail::new("no page size"))
 }
 
 // The dirty pages of a bitmap as the bits of a number, page 0 the lowest.
