@@ -1,73 +1,62 @@
 -- The list of the dirty pages below a number, page by page. Assumes nothing.
-use Rattle.std.proofs.Common.{◌≡◌, ℕ, zero, suc, ◌+◌, ◌*◌, ◌<◌, ◌≤◌, min, Bool, true, false, cond, List, [], ◌∷◌, ◌++◌, length, refl, ap, inl, inr, append-nil, suc-mul, arith, length-append}
-use Rattle.std.proofs.lemmas.Bool.{cases_eq}
-use Rattle.parcel.specs.Parcels.{dirty_below, page_length, sum_of}
+use Rattle.std.proofs.Common.{◌≡◌, ℕ, zero, suc, ◌+◌, ◌-◌, ◌<◌, ◌≤◌, Bool, cond, Some, None, [], ◌∷◌, ◌++◌, length, sym, refl, ap, ◌∙◌, inl, inr, append-nil, append_assoc, arith, length-append}
+use Rattle.std.specs.List.{find, range_with_len}
+use Rattle.std.proofs.lemmas.Bool.{cases_Bool, cond-true, cond-false}
+use Rattle.parcel.specs.Parcels.{dirty_below}
+use Rattle.parcel.specs.Rules.{dirty_from}
 
 module _ (d : ℕ → Bool) where
   -- one page more
-  pub dirty_next : (q : ℕ) → d q ≡ true → dirty_below d (q + 1) ≡ dirty_below d q ++ (q ∷ [])
+  dirty_next : (q : ℕ) → dirty_below d (q + 1) ≡ dirty_below d q ++ cond (d q) (q ∷ []) []
   unfolding dirty_below
-  dirty_next q is = let e : q + 1 ≡ suc q = omega arith in rw (e, is)
+  dirty_next q = let e : q + 1 ≡ suc q = omega arith in rw e
 
-  pub clean_next : (q : ℕ) → d q ≡ false → dirty_below d (q + 1) ≡ dirty_below d q
+  -- those of k pages more
+  dirty_more : (m k : ℕ) → dirty_below d m ++ dirty_from d m k ≡ dirty_below d (m + k)
+  dirty_more m zero = let e : m + 0 ≡ m = omega arith in rw e (append-nil (dirty_below d m))
+  dirty_more m (suc k) =
+      let e : m + 1 + k ≡ m + suc k = omega arith in
+      let next : dirty_below d m ++ dirty_from d m (suc k) ≡ dirty_below d (m + 1) ++ dirty_from d (m + 1) k =
+      elim (cases_Bool (d m)) [
+        | inl is ↦ rw (dirty_next m, is) (sym (append_assoc (dirty_below d m) (m ∷ []) (dirty_from d (m + 1) k)))
+        | inr is ↦ rw (dirty_next m, is, append-nil (dirty_below d m))
+      ] in
+      next ∙ dirty_more (m + 1) k ∙ ap (dirty_below d) e
+
+  -- from the first page on
+  pub dirty_all : (n : ℕ) → dirty_from d 0 n ≡ dirty_below d n
   unfolding dirty_below
-  clean_next q is = let e : q + 1 ≡ suc q = omega arith in rw (e, is) (append-nil (dirty_below d q))
+  dirty_all n = let e : 0 + n ≡ n = omega arith in dirty_more 0 n ∙ ap (dirty_below d) e
 
-  pub dirty_none : dirty_below d 0 ≡ []
-  unfolding dirty_below
-  dirty_none = refl
+  -- the first of them is the one that a search finds
+  pub found_some : (m k x : ℕ) → Some x ≡ find d (range_with_len m k) → (m ≤ x) × (x < m + k) × (dirty_from d m k ≡ x ∷ dirty_from d (x + 1) (m + k - (x + 1)))
+  found_some m zero x is = let z : ◌≡◌ {A = ℕ} 0 1 = cc in absurd (omega arith)
+  found_some m (suc k) x is =
+      elim (cases_Bool (d m)) [
+        | inl e ↦
+            let same : x ≡ m = let here = is ∙ cond-true _ _ _ e in cc in
+            let left : m + suc k - (m + 1) ≡ k = omega arith in
+            (omega arith, omega arith, rw (e, same, left))
+        | inr e ↦
+            let later = found_some (m + 1) k x (is ∙ cond-false _ _ _ e) in
+            let left : m + 1 + k - (x + 1) ≡ m + suc k - (x + 1) = omega arith in
+            (omega (arith, later.0), omega (arith, later.1), rw e (later.2 ∙ ap (λ n. x ∷ dirty_from d (x + 1) n) left))
+      ]
 
--- a sum with one more
-pub sum_push : (f : ℕ → ℕ) (xs : List ℕ) (y : ℕ) → sum_of f (xs ++ (y ∷ [])) ≡ sum_of f xs + f y
-sum_push f [] y = omega arith
-sum_push f (x ∷ xs) y = omega (arith, sum_push f xs y)
+  pub found_none : (m k : ℕ) → None ≡ find d (range_with_len m k) → dirty_from d m k ≡ []
+  found_none m zero is = refl
+  found_none m (suc k) is =
+      elim (cases_Bool (d m)) [
+        | inl e ↦ let clash = is ∙ cond-true _ _ _ e in let z : ◌≡◌ {A = ℕ} 0 1 = cc in absurd (omega arith)
+        | inr e ↦ rw e (found_none (m + 1) k (is ∙ cond-false _ _ _ e))
+      ]
 
-maybe_length : (xs : List ℕ) (b : Bool) (y : ℕ) → (length xs ≤ length (xs ++ cond b (y ∷ []) [])) × (length (xs ++ cond b (y ∷ []) []) ≤ length xs + 1)
-maybe_length xs true y = (simp length-append (omega arith), simp length-append (omega arith))
-maybe_length xs false y = (simp length-append (omega arith), simp length-append (omega arith))
-
-maybe_sum : (f : ℕ → ℕ) (xs : List ℕ) (b : Bool) (y : ℕ) → (sum_of f xs ≤ sum_of f (xs ++ cond b (y ∷ []) [])) × (sum_of f (xs ++ cond b (y ∷ []) []) ≤ sum_of f xs + f y)
-maybe_sum f xs true y = (rw (sum_push f xs y) (omega arith), rw (sum_push f xs y) (omega arith))
-maybe_sum f xs false y = (rw (append-nil xs) (omega arith), rw (append-nil xs) (omega arith))
-
-module _ (d : ℕ → Bool) where
   -- there are no more dirty pages than pages
   pub dirty_count : (n : ℕ) → length (dirty_below d n) ≤ n
   unfolding dirty_below
   dirty_count zero = omega arith
-  dirty_count (suc n) = omega (arith, dirty_count n, (maybe_length (dirty_below d n) (d n) n).1)
-
-  -- and below more pages no fewer
-  dirty_grows : (m n : ℕ) → m ≤ n → length (dirty_below d m) ≤ length (dirty_below d n)
-  unfolding dirty_below
-  dirty_grows m zero h = let e : m ≡ 0 = omega arith in rw e (omega arith)
-  dirty_grows m (suc n) h =
-      elim (cases_eq m (suc n)) [
-        | inl e ↦ rw e (omega arith)
-        | inr ne ↦ omega (arith, dirty_grows m n (omega arith), (maybe_length (dirty_below d n) (d n) n).0)
+  dirty_count (suc n) =
+      elim (cases_Bool (d n)) [
+        | inl e ↦ rw e (simp length-append (omega (arith, dirty_count n)))
+        | inr e ↦ rw e (simp length-append (omega (arith, dirty_count n)))
       ]
-
-  sum_grows : (f : ℕ → ℕ) (m n : ℕ) → m ≤ n → sum_of f (dirty_below d m) ≤ sum_of f (dirty_below d n)
-  unfolding dirty_below
-  sum_grows f m zero h = let e : m ≡ 0 = omega arith in rw e (omega arith)
-  sum_grows f m (suc n) h =
-      elim (cases_eq m (suc n)) [
-        | inl e ↦ rw e (omega arith)
-        | inr ne ↦ omega (arith, sum_grows f m n (omega arith), (maybe_sum f (dirty_below d n) (d n) n).0)
-      ]
-
-  -- a dirty page is among those below more
-  pub dirty_fits : (q n : ℕ) → d q ≡ true → q < n → length (dirty_below d q) + 1 ≤ length (dirty_below d n)
-  dirty_fits q n is h =
-      omega (arith, dirty_grows (q + 1) n (omega arith), ap length (dirty_next d q is), length-append (dirty_below d q) (q ∷ []))
-
-  pub sum_fits : (f : ℕ → ℕ) (q n : ℕ) → d q ≡ true → q < n → sum_of f (dirty_below d q) + f q ≤ sum_of f (dirty_below d n)
-  sum_fits f q n is h =
-      omega (arith, sum_grows f (q + 1) n (omega arith), ap (sum_of f) (dirty_next d q is), sum_push f (dirty_below d q) q)
-
-  -- pages do not overlap: together they have no more bytes than the memory
-  pub bytes_within : (p total n : ℕ) → sum_of (page_length p total) (dirty_below d n) ≤ min (n * p) total
-  unfolding dirty_below
-  bytes_within p total zero = omega arith
-  bytes_within p total (suc n) =
-      omega (arith, bytes_within p total n, (maybe_sum (page_length p total) (dirty_below d n) (d n) n).1, suc-mul n p)

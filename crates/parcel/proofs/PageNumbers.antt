@@ -1,64 +1,138 @@
 -- A parcel's page numbers, looked at one by one. Assumes nothing.
-use Rattle.std.proofs.Common.{◌≡◌, ℕ, zero, suc, ◌+◌, ◌-◌, ◌*◌, ◌<◌, ◌≤◌, min, true, false, cond, ◌&&◌, ltb, leb, List, [], ◌∷◌, length, take, drop, sym, ap, ◌∙◌, subst, inl, inr, mul-le-mul_right, suc-mul, arith}
-use Rattle.std.proofs.lemmas.List.{drop-drop}
-use Rattle.std.proofs.lemmas.Bool.{cases_Bool, cond-true, cond-false, and_parts, leb-true, ltb-true}
+use Rattle.std.proofs.Common.{◌≡◌, ℕ, zero, suc, ◌+◌, ◌-◌, ◌*◌, ◌/◌, ◌<◌, ◌≤◌, min, true, false, cond, ◌&&◌, ltb, leb, Some, None, Option, List, [], ◌∷◌, length, take, drop, sym, refl, ap, ap₂, ◌∙◌, subst, inl, inr, mul-le-mul_right, suc-mul, arith, length-drop, length-take}
+use Rattle.std.proofs.lemmas.List.{drop-drop, drop-take, take-take}
+use Rattle.std.proofs.lemmas.Bool.{cases_Bool, le-ltb, lt-ltb, le-leb, cond-true, cond-false, and_parts, leb-true, ltb-true, ltb-false}
+use Rattle.byte_valued.specs.Buffers.{made_of}
+use Rattle.byte_valued.specs.LittleEndian.{number_of}
 use Rattle.volatile_memory.specs.Faults.{bad_parcel}
 use Rattle.volatile_memory.specs.Faults.Answer.{gives, refuses}
-use Rattle.volatile_memory.specs.Memory.{overlaid}
-use Rattle.parcel.specs.Parcels.{number_at, numbers, wrong_from, page_length, sum_of, laid_pages}
-use Rattle.parcel.specs.Rules.{Below}
+use Rattle.volatile_memory.specs.Memory.{part, overlaid}
+use Rattle.parcel.specs.Parcels.{number_at, numbers, numbers_of, page_number, wrong_from, page_length, laid_pages}
+use Rattle.parcel.specs.Rules.{Below, first_of, head_of, wrong_among}
 
-one_less : (i k : ℕ) → i < k → k - i ≡ suc (k - (i + 1))
-one_less i k h = omega arith
+pub length-numbers : (bs : List ℕ) (i k : ℕ) → length (numbers bs i k) ≡ k
+length-numbers bs i zero = refl
+length-numbers bs i (suc k) = ap suc (length-numbers bs (i + 1) k)
 
--- the next of k numbers
-pub numbers_next : (bs : List ℕ) (i k : ℕ) → i < k → numbers bs (3 + i) (k - i) ≡ number_at bs (3 + i) ∷ numbers bs (3 + (i + 1)) (k - (i + 1))
-numbers_next bs i k h =
-    let e : 3 + i + 1 ≡ 3 + (i + 1) = omega arith in
-    ap (numbers bs (3 + i)) (one_less i k h) ∙ ap (λ x. number_at bs (3 + i) ∷ numbers bs x (k - (i + 1))) e
+-- the numbers behind the first j of them
+number_behind : (bs : List ℕ) (j i : ℕ) → number_at (drop (j * 8) bs) i ≡ number_at bs (j + i)
+unfolding part
+number_behind bs j i =
+    let e : j * 8 + i * 8 ≡ (j + i) * 8 = omega arith in
+    ap (λ xs. number_of (take 8 xs)) (drop-drop (i * 8) (j * 8) bs ∙ ap (λ n. drop n bs) e)
 
-pub sum_next : (f : ℕ → ℕ) (bs : List ℕ) (i k q : ℕ) → q ≡ number_at bs (3 + i) → i < k → sum_of f (numbers bs (3 + i) (k - i)) ≡ f q + sum_of f (numbers bs (3 + (i + 1)) (k - (i + 1)))
-sum_next f bs i k q is h =
-    ap (sum_of f) (numbers_next bs i k h) ∙ ap (λ x. f x + sum_of f (numbers bs (3 + (i + 1)) (k - (i + 1)))) (sym is)
+numbers_behind : (bs : List ℕ) (j i k : ℕ) → numbers (drop (j * 8) bs) i k ≡ numbers bs (j + i) k
+numbers_behind bs j i zero = refl
+numbers_behind bs j i (suc k) =
+    let e : j + (i + 1) ≡ j + i + 1 = omega arith in
+    ap₂ ◌∷◌ (number_behind bs j i) (numbers_behind bs j (i + 1) k ∙ ap (λ n. numbers bs n k) e)
 
-pub below_next : (bs : List ℕ) (n i k q : ℕ) → q ≡ number_at bs (3 + i) → i < k → Below n (numbers bs (3 + i) (k - i)) → (q < n) × Below n (numbers bs (3 + (i + 1)) (k - (i + 1)))
-below_next bs n i k q is h all =
-    subst (λ x. (x < n) × Below n (numbers bs (3 + (i + 1)) (k - (i + 1)))) (sym is) (subst (Below n) (numbers_next bs i k h) all)
+-- numbers of which the bytes lie among the first n
+number_within : (bs : List ℕ) (n i : ℕ) → i * 8 + 8 ≤ n → number_at (take n bs) i ≡ number_at bs i
+unfolding part
+number_within bs n i fits =
+    let e : n ≡ i * 8 + (n - i * 8) = omega arith in
+    let cut : drop (i * 8) (take n bs) ≡ take (n - i * 8) (drop (i * 8) bs) = ap (λ m. drop (i * 8) (take m bs)) e ∙ drop-take (i * 8) (n - i * 8) bs in
+    ap (λ xs. number_of (take 8 xs)) cut ∙ ap number_of (take-take 8 (n - i * 8) (drop (i * 8) bs) (omega arith))
 
-pub numbers_end : (bs : List ℕ) (i k : ℕ) → k ≤ i → numbers bs (3 + i) (k - i) ≡ []
-numbers_end bs i k h = let e : k - i ≡ 0 = omega arith in ap (numbers bs (3 + i)) e
+numbers_within : (bs : List ℕ) (n i k : ℕ) → (i + k) * 8 ≤ n → numbers (take n bs) i k ≡ numbers bs i k
+numbers_within bs n i zero fits = refl
+numbers_within bs n i (suc k) fits = ap₂ ◌∷◌ (number_within bs n i (omega arith)) (numbers_within bs n (i + 1) k (omega arith))
 
-module _ (bs : List ℕ) (n low i k : ℕ) where
+-- all the numbers that bytes hold: the first, and those behind it
+pub numbers_first : (bs : List ℕ) → 8 ≤ length bs → numbers_of bs ≡ number_of (take 8 bs) ∷ numbers_of (drop 8 bs)
+unfolding part
+numbers_first bs long =
+    let e : length bs / 8 ≡ suc (length (drop 8 bs) / 8) = simp length-drop (omega arith) in
+    ap (numbers bs 0) e ∙ ap (λ ns. number_of (take 8 bs) ∷ ns) (sym (numbers_behind bs 1 0 (length (drop 8 bs) / 8)))
+
+-- a number made of the first 8 bytes
+pub number_made : (bs first : List ℕ) (r : Option ℕ) → first ≡ take 8 bs → length first ≡ 8 → r ≡ made_of 8 number_of first → r ≡ Some (number_of (take 8 bs))
+number_made bs first r first_is long made = made ∙ rw (long, first_is) refl
+
+pub numbers_short : (bs : List ℕ) → length bs < 8 → numbers_of bs ≡ []
+numbers_short bs short = let e : length bs / 8 ≡ 0 = omega arith in ap (numbers bs 0) e
+
+-- three numbers that come first are those of the head, and with fewer there is none
+pub first_read : (bs rest : List ℕ) (a b c : ℕ) → numbers_of bs ≡ a ∷ b ∷ c ∷ rest → Some (a, b, c) ≡ first_of bs
+first_read bs rest a b c is =
+    let many : length bs / 8 ≡ suc (suc (suc (length rest))) = sym (length-numbers bs 0 (length bs / 8)) ∙ ap length is in
+    let same : number_at bs 0 ∷ number_at bs 1 ∷ number_at bs 2 ∷ numbers bs 3 (length rest) ≡ a ∷ b ∷ c ∷ rest = sym (ap (numbers bs 0) many) ∙ is in
+    let first : number_at bs 0 ≡ a = cc in
+    let second : number_at bs 1 ≡ b = cc in
+    let third : number_at bs 2 ≡ c = cc in
+    rw (le-ltb (length bs) 24 (omega arith), first, second, third)
+
+pub first_missing : (bs : List ℕ) → length (numbers_of bs) < 3 → None ≡ first_of bs
+first_missing bs few =
+    rw (lt-ltb (length bs) 24 (omega (arith, length-numbers bs 0 (length bs / 8))))
+
+-- what the first three numbers tell
+pub first_told : (bs : List ℕ) (a b c : ℕ) → Some (a, b, c) ≡ first_of bs → (24 ≤ length bs) × (a ≡ number_at bs 0) × (b ≡ number_at bs 1) × (c ≡ number_at bs 2)
+first_told bs a b c is =
+    elim (cases_Bool (ltb (length bs) 24)) [
+      | inl e ↦ let clash = is ∙ cond-true _ _ _ e in let z : ◌≡◌ {A = ℕ} 0 1 = cc in absurd (omega arith)
+      | inr e ↦ let same = is ∙ cond-false _ _ _ e in let each : ◌≡◌ {A = ℕ × ℕ × ℕ} (a, b, c) (number_at bs 0, number_at bs 1, number_at bs 2) = cc in (ltb-false (length bs) 24 e, ap (λ t. t.0) each, ap (λ t. t.1) each, ap (λ t. t.2) each)
+    ]
+
+pub head_told : (bs : List ℕ) (a b c : ℕ) → gives (a, b, c) ≡ head_of bs → (24 ≤ length bs) × (a ≡ number_at bs 0) × (b ≡ number_at bs 1) × (c ≡ number_at bs 2)
+head_told bs a b c is =
+    elim (cases_Bool (ltb (length bs) 24)) [
+      | inl e ↦ let clash = is ∙ cond-true _ _ _ e in let z : ◌≡◌ {A = ℕ} 0 1 = cc in absurd (omega arith)
+      | inr e ↦ let same = is ∙ cond-false _ _ _ e in let each : ◌≡◌ {A = ℕ × ℕ × ℕ} (a, b, c) (number_at bs 0, number_at bs 1, number_at bs 2) = cc in (ltb-false (length bs) 24 e, ap (λ t. t.0) each, ap (λ t. t.1) each, ap (λ t. t.2) each)
+    ]
+
+-- the number of a page that a parcel says it has, and has bytes for
+pub page_read : (bs : List ℕ) (i : ℕ) → i < number_at bs 1 → 24 + 8 * (i + 1) ≤ length bs → made_of 8 number_of (take (24 + 8 * i + 8 - (24 + 8 * i)) (drop (24 + 8 * i) bs)) ≡ page_number bs i
+unfolding part
+page_read bs i told within =
+    let size : 24 + 8 * i + 8 - (24 + 8 * i) ≡ 8 = omega arith in
+    let start : 24 + 8 * i ≡ (3 + i) * 8 = omega arith in
+    let long : length (take 8 (drop ((3 + i) * 8) bs)) ≡ 8 = simp (length-take, length-drop) (omega arith) in
+    rw (lt-ltb i (number_at bs 1) told, le-leb (24 + 8 * (i + 1)) (length bs) within, size, start, long) refl
+
+-- the page numbers of a parcel, which its head is cut off from
+pub numbers_carried : (bs : List ℕ) (k : ℕ) → 24 + 8 * k ≤ length bs → numbers_of (take (8 * k) (drop 24 bs)) ≡ numbers bs 3 k
+numbers_carried bs k room =
+    let e : length (take (8 * k) (drop 24 bs)) / 8 ≡ k = simp (length-take, length-drop) (omega arith) in
+    ap (numbers (take (8 * k) (drop 24 bs)) 0) e ∙ numbers_within (drop 24 bs) (8 * k) 0 k (omega arith) ∙ numbers_behind bs 3 0 k
+
+-- rule 5 over the list of the page numbers
+pub wrong_listed : (bs : List ℕ) (n low i k : ℕ) → wrong_from bs n low i k ≡ wrong_among n low i (numbers bs i k)
+wrong_listed bs n low i zero = refl
+wrong_listed bs n low i (suc k) =
+    ap (λ a. cond (leb low (number_at bs i) && ltb (number_at bs i) n) a (refuses (bad_parcel 5 (i * 8)))) (wrong_listed bs n (number_at bs i + 1) (i + 1) k)
+
+module _ (n low i q : ℕ) (qs : List ℕ) where
   -- the next number is right, or the first wrong one
-  look : (q : ℕ) → q ≡ number_at bs (3 + i) → i < k → wrong_from bs n low (3 + i) (k - i) ≡ cond (leb low q && ltb q n) (wrong_from bs n (q + 1) (3 + (i + 1)) (k - (i + 1))) (refuses (bad_parcel 5 ((3 + i) * 8)))
-  look q is h =
-      let e : 3 + i + 1 ≡ 3 + (i + 1) = omega arith in
-      rw is (ap (wrong_from bs n low (3 + i)) (one_less i k h) ∙ ap (λ x. cond (leb low (number_at bs (3 + i)) && ltb (number_at bs (3 + i)) n) (wrong_from bs n (number_at bs (3 + i) + 1) x (k - (i + 1))) (refuses (bad_parcel 5 ((3 + i) * 8)))) e)
+  pub right_next : (leb low q && ltb q n) ≡ true → wrong_among n low i (q ∷ qs) ≡ wrong_among n (q + 1) (i + 1) qs
+  right_next right = cond-true _ _ _ right
 
-  pub right_next : (q : ℕ) → q ≡ number_at bs (3 + i) → i < k → (leb low q && ltb q n) ≡ true → wrong_from bs n low (3 + i) (k - i) ≡ wrong_from bs n (q + 1) (3 + (i + 1)) (k - (i + 1))
-  right_next q is h right = look q is h ∙ cond-true _ _ _ right
-
-  pub wrong_here : (q : ℕ) → q ≡ number_at bs (3 + i) → i < k → (leb low q && ltb q n) ≡ false → wrong_from bs n low (3 + i) (k - i) ≡ refuses (bad_parcel 5 ((3 + i) * 8))
-  wrong_here q is h wrong = look q is h ∙ cond-false _ _ _ wrong
-
-  pub none_wrong : k ≤ i → wrong_from bs n low (3 + i) (k - i) ≡ gives 0
-  none_wrong h = let e : k - i ≡ 0 = omega arith in ap (wrong_from bs n low (3 + i)) e
+  pub wrong_here : (leb low q && ltb q n) ≡ false → wrong_among n low i (q ∷ qs) ≡ refuses (bad_parcel 5 (i * 8))
+  wrong_here wrong = cond-false _ _ _ wrong
 
 -- numbers that rise below n are pages of n
-pub right_below : (bs : List ℕ) (n low i k x : ℕ) → wrong_from bs n low i k ≡ gives x → Below n (numbers bs i k)
-right_below bs n low i zero x is = tt
-right_below bs n low i (suc k) x is =
-    elim (cases_Bool (leb low (number_at bs i) && ltb (number_at bs i) n)) [
-      | inl e ↦ (ltb-true _ _ (and_parts _ _ e).1, right_below bs n (number_at bs i + 1) (i + 1) k x (sym (cond-true _ _ _ e) ∙ is))
+pub right_below : (n low i x : ℕ) (qs : List ℕ) → wrong_among n low i qs ≡ gives x → Below n qs
+right_below n low i x [] is = tt
+right_below n low i x (q ∷ qs) is =
+    elim (cases_Bool (leb low q && ltb q n)) [
+      | inl e ↦ (ltb-true _ _ (and_parts _ _ e).1, right_below n (q + 1) (i + 1) x qs (sym (cond-true _ _ _ e) ∙ is))
       | inr e ↦ let clash = sym (cond-false _ _ _ e) ∙ is in let z : ◌≡◌ {A = ℕ} 0 1 = cc in absurd (omega arith)
     ]
+
+-- the first of such pages, and the others
+pub below_next : (n q : ℕ) (all qs : List ℕ) → all ≡ q ∷ qs → Below n all → (q < n) × Below n qs
+below_next n q all qs is below = subst (Below n) is below
+
+-- one page more laid
+pub lay_next : (copy copy' rest front back qs : List ℕ) (p total q size start : ℕ) → length copy ≡ total → size ≡ page_length p total q → start ≡ q * p → front ≡ take size rest → back ≡ drop size rest → copy' ≡ overlaid copy start front → laid_pages copy p (q ∷ qs) rest ≡ laid_pages copy' p qs back
+lay_next copy copy' rest front back qs p total q size start long size_is start_is front_is back_is laid =
+    let e : page_length p (length copy) q ≡ size = ap (λ n. page_length p n q) long ∙ sym size_is in
+    rw (laid, start_is, front_is, back_is, e)
 
 -- what a right number is
 pub right_above : (q low n : ℕ) → (leb low q && ltb q n) ≡ true → low ≤ q
 right_above q low n right = leb-true low q (and_parts _ _ right).0
-
-pub right_page : (q low n : ℕ) → (leb low q && ltb q n) ≡ true → q < n
-right_page q low n right = ltb-true q n (and_parts _ _ right).1
 
 -- pages that rise do not overlap
 pub next_within : (p total low q bytes : ℕ) → bytes ≤ min (low * p) total → low ≤ q → bytes + page_length p total q ≤ min ((q + 1) * p) total
@@ -66,9 +140,3 @@ next_within p total low q bytes sofar above =
     let more = mul-le-mul_right p above in
     let e : q + 1 ≡ suc q = omega arith in
     rw e (omega (arith, suc-mul q p))
-
--- one page more laid
-pub lay_next : (copy bs qs : List ℕ) (p q at end : ℕ) → end ≡ at + page_length p (length copy) q → laid_pages copy p (q ∷ qs) (drop at bs) ≡ laid_pages (overlaid copy (q * p) (take (end - at) (drop at bs))) p qs (drop end bs)
-lay_next copy bs qs p q at end is =
-    let e : end - at ≡ page_length p (length copy) q = omega arith in
-    rw (e, is) (ap (laid_pages (overlaid copy (q * p) (take (page_length p (length copy) q) (drop at bs))) p qs) (drop-drop (page_length p (length copy) q) at bs))

@@ -1,10 +1,10 @@
 -- The parts of a parcel, one laid behind another. Assumes nothing.
-use Rattle.std.proofs.Common.{◌≡◌, ℕ, ◌+◌, ◌-◌, ◌*◌, ◌≤◌, List, [], ◌∷◌, ◌++◌, map, length, take, drop, sym, refl, ap, ◌∙◌, ap₂, inl, inr, arith, length-append, length-drop, length-take}
-use Rattle.std.proofs.lemmas.List.{map_push, take_all}
+use Rattle.std.proofs.Common.{◌≡◌, ℕ, ◌+◌, ◌-◌, ◌*◌, ◌≤◌, min, List, [], ◌∷◌, ◌++◌, length, take, drop, sym, refl, ap, ◌∙◌, ap₂, inl, inr, arith, length-append, length-drop, length-take}
+use Rattle.std.proofs.lemmas.List.{take_all, drop_all}
 use Rattle.std.proofs.lemmas.Bool.{cases_lt}
 use Rattle.byte_valued.specs.LittleEndian.{bytes_of}
-use Rattle.volatile_memory.specs.Memory.{part, overlaid, joined}
-use Rattle.volatile_memory.proofs.LaidBytes.{overlaid_next, joined_push}
+use Rattle.volatile_memory.specs.Memory.{part, overlaid}
+use Rattle.volatile_memory.proofs.LaidBytes.{overlaid_next}
 use Rattle.parcel.specs.Parcels.{page_length, words, head, bodies, parcel, sum_of}
 
 pub length-words : (ns : List ℕ) → length (words ns) ≡ 8 * length ns
@@ -16,11 +16,16 @@ unfolding part
 length_page memory p q = simp (length-take, length-drop)
 
 -- the bytes of page q, as a slice's part
-pub page_part : (memory : List ℕ) (p q from size total : ℕ) → from ≡ q * p → size ≡ page_length p total q → total ≡ length memory → take (from + size - from) (drop from memory) ≡ part memory (q * p) p
+pub page_part : (memory : List ℕ) (page q from size p total : ℕ) → p ≡ page → total ≡ length memory → from ≡ min (q * p) total → size ≡ page_length p total q → take (from + size - from) (drop from memory) ≡ part memory (q * page) page
 unfolding part
-page_part memory p q from size total is_from is_size is_total =
+page_part memory page q from size p total p_is total_is from_is size_is =
     let e : from + size - from ≡ size = omega arith in
-    rw (e, is_from) (elim (cases_lt (length memory - q * p) p) [
+    let same : drop from memory ≡ drop (q * p) memory =
+    elim (cases_lt (q * p) total) [
+      | inl inside ↦ let at : from ≡ q * p = omega arith in rw at
+      | inr past ↦ drop_all from memory (omega arith) ∙ sym (drop_all (q * p) memory (omega arith))
+    ] in
+    rw (e, same, ← p_is) (elim (cases_lt (length memory - q * p) p) [
       | inl short ↦ take_all size (drop (q * p) memory) (simp length-drop (omega arith)) ∙ sym (take_all p (drop (q * p) memory) (simp length-drop (omega arith)))
       | inr whole ↦ let all : size ≡ p = omega arith in ap (λ n. take n (drop (q * p) memory)) all
     ])
@@ -30,23 +35,22 @@ length-bodies p memory [] = refl
 length-bodies p memory (q ∷ qs) =
     length-append (part memory (q * p) p) (bodies p memory qs) ∙ ap₂ ◌+◌ (length_page memory p q) (length-bodies p memory qs)
 
--- one number or page more
-words_push : (ns : List ℕ) (n : ℕ) → words (ns ++ (n ∷ [])) ≡ words ns ++ bytes_of 8 n
-words_push ns n = ap joined (map_push (bytes_of 8) ns n) ∙ joined_push (map (bytes_of 8) ns) (bytes_of 8 n)
+-- the first of some numbers laid, and those behind it
+pub number_next : (buf buf' ns left : List ℕ) (at at' n : ℕ) → ns ≡ n ∷ left → at' ≡ at + 8 → buf' ≡ overlaid buf at (bytes_of 8 n) → at + 8 * length ns ≤ length buf → overlaid buf at (words ns) ≡ overlaid buf' at' (words left)
+number_next buf buf' ns left at at' n is at_is laid fits =
+    rw (is, laid) (sym (overlaid_next buf (bytes_of 8 n) (words left) at at' at_is (omega (arith, ap length is, length-words left))))
 
-bodies_push : (p : ℕ) (memory qs : List ℕ) (q : ℕ) → bodies p memory (qs ++ (q ∷ [])) ≡ bodies p memory qs ++ part memory (q * p) p
-bodies_push p memory qs q =
-    ap joined (map_push (λ r. part memory (r * p) p) qs q) ∙ joined_push (map (λ r. part memory (r * p) p) qs) (part memory (q * p) p)
+-- the first of some pages laid, and those behind it
+module _ (memory page qs left : List ℕ) (p at at' q : ℕ) (is : qs ≡ q ∷ left) (page_is : page ≡ part memory (q * p) p) (at_is : at' ≡ at + length page) where
+  first_page : bodies p memory qs ≡ page ++ bodies p memory left
+  first_page = rw (is, page_is) refl
 
--- a number laid behind numbers
-pub number_next : (buf ns : List ℕ) (start at n : ℕ) → at ≡ start + 8 * length ns → at + 8 ≤ length buf → overlaid (overlaid buf start (words ns)) at (bytes_of 8 n) ≡ overlaid buf start (words (ns ++ (n ∷ [])))
-number_next buf ns start at n is fits =
-    overlaid_next buf (words ns) (bytes_of 8 n) start at (omega (arith, length-words ns)) fits ∙ ap (overlaid buf start) (sym (words_push ns n))
+  pub page_place : at' + length (bodies p memory left) ≡ at + length (bodies p memory qs)
+  page_place = omega (arith, ap length first_page, length-append page (bodies p memory left))
 
--- a page laid behind pages
-pub page_next : (buf memory qs : List ℕ) (p start at q : ℕ) → at ≡ start + sum_of (page_length p (length memory)) qs → at + page_length p (length memory) q ≤ length buf → overlaid (overlaid buf start (bodies p memory qs)) at (part memory (q * p) p) ≡ overlaid buf start (bodies p memory (qs ++ (q ∷ [])))
-page_next buf memory qs p start at q is fits =
-    overlaid_next buf (bodies p memory qs) (part memory (q * p) p) start at (omega (arith, length-bodies p memory qs)) (omega (arith, length_page memory p q)) ∙ ap (overlaid buf start) (sym (bodies_push p memory qs q))
+  pub page_next : (buf buf' : List ℕ) → buf' ≡ overlaid buf at page → at + length (bodies p memory qs) ≤ length buf → overlaid buf at (bodies p memory qs) ≡ overlaid buf' at' (bodies p memory left)
+  page_next buf buf' laid fits =
+      rw (first_page, laid) (sym (overlaid_next buf page (bodies p memory left) at at' at_is (omega (arith, page_place))))
 
 -- the three numbers of a head, laid one by one
 pub head-laid : (buf : List ℕ) (a b c : ℕ) → 24 ≤ length buf → overlaid (overlaid (overlaid buf 0 (bytes_of 8 a)) 8 (bytes_of 8 b)) 16 (bytes_of 8 c) ≡ overlaid buf 0 (words (a ∷ b ∷ c ∷ []))

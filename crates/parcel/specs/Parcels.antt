@@ -1,5 +1,5 @@
 -- Parcels: the dirty pages of a memory as bytes, and those bytes laid into a copy. Assumes nothing.
-use Rattle.std.specs.Prelude.{ℕ, zero, suc, ◌+◌, ◌-◌, ◌*◌, min, Bool, false, cond, not, ◌&&◌, ◌||◌, List, [], ◌∷◌, ◌++◌, map, length, take, drop, ◌==◌, nat_le, nat_lt, if◌then◌else◌, Some, None, Option}
+use Rattle.std.specs.Prelude.{ℕ, zero, suc, ◌+◌, ◌-◌, ◌*◌, ◌/◌, min, Bool, false, cond, not, ◌&&◌, ◌||◌, List, [], ◌∷◌, ◌++◌, map, length, take, drop, ◌==◌, nat_le, nat_lt, if◌then◌else◌, Some, None, Option}
 use Rattle.byte_valued.specs.LittleEndian.{bytes_of, number_of}
 use Rattle.bitmap.specs.Pages.{Meaning, top, ceiling, dirty, with_bits}
 use Rattle.volatile_memory.specs.Faults.{Answer, uncovered, no_room, bad_parcel}
@@ -70,6 +70,10 @@ page_number bs i = if nat_lt i (number_at bs 1) && nat_le (24 + 8 * (i + 1)) (le
 abbrev pub numbers : List ℕ → ℕ → ℕ → List ℕ
 numbers bs i zero = []
 numbers bs i (suc k) = number_at bs i ∷ numbers bs (i + 1) k
+
+-- all the numbers that bytes hold
+abbrev pub numbers_of : List ℕ → List ℕ
+numbers_of bs = numbers bs 0 (length bs / 8)
 
 -- the first of k page numbers from the i-th on that is no page of n, or below `low` (one more than the page before, 0 at first), by its place
 abbrev pub wrong_from : List ℕ → ℕ → ℕ → ℕ → ℕ → Answer ℕ

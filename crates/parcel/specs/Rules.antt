@@ -1,26 +1,26 @@
 -- Taking and applying, step by step. Assumes nothing.
-use Rattle.std.specs.Prelude.{◌≡◌, ℕ, ◌+◌, ◌*◌, ◌<◌, min, cond, not, ◌&&◌, ◌||◌, List, [], ◌∷◌, length, ◌==◌, nat_le, nat_lt}
-use Rattle.bitmap.specs.Pages.{Meaning, top, dirty}
-use Rattle.volatile_memory.specs.Faults.{Answer, uncovered, no_room, bad_parcel}
+use Rattle.std.specs.Prelude.{◌≡◌, ℕ, zero, suc, ◌+◌, ◌*◌, ◌<◌, min, Bool, cond, not, ◌&&◌, ◌||◌, List, [], ◌∷◌, length, drop, ◌==◌, nat_le, nat_lt, if◌then◌else◌, Some, None, Option}
+use Rattle.bitmap.specs.Pages.{Meaning}
+use Rattle.volatile_memory.specs.Faults.{Answer, uncovered, bad_parcel}
 use Rattle.volatile_memory.specs.Faults.Answer.{gives, refuses}
-use Rattle.parcel.specs.Parcels.{pages, page_length, dirty_below, number_at, numbers, wrong_from, sum_of, unless}
+use Rattle.parcel.specs.Parcels.{pages, page_length, covered, number_at, numbers, numbers_of, wrong_from, sum_of, unless}
 
--- pages of this size, from the first byte on
-abbrev pub FromStart : Meaning → ℕ → Type 0
-FromStart b page = (b.base ≡ 0) × (b.page ≡ page)
+-- the dirty ones by d of k pages from m on, rising
+abbrev pub dirty_from : (ℕ → Bool) → ℕ → ℕ → List ℕ
+dirty_from d m zero = []
+dirty_from d m (suc k) = cond (d m) (m ∷ dirty_from d (m + 1) k) (dirty_from d (m + 1) k)
 
--- the dirty pages of a memory of n bytes, in pages of this size
-abbrev pub dirty_among : Meaning → ℕ → ℕ → List ℕ
-dirty_among b n page = dirty_below (dirty b) (pages n page)
+-- the bitmap has every page of a memory
+abbrev pub cover : Meaning → List ℕ → Answer ℕ
+cover b memory = cond (covered b memory) (gives 0) (refuses (uncovered (pages (length memory) b.page) b.count))
 
--- the bitmap has every page of a memory of n bytes
-abbrev pub cover : Meaning → ℕ → Answer ℕ
-cover b n =
-    cond (b.base == 0 && nat_le (pages n b.page) b.count) (gives 0) (refuses (uncovered (pages n b.page) b.count))
+-- the page size, how many pages, and the memory's length, if a parcel has those numbers
+abbrev pub first_of : List ℕ → Option (ℕ × ℕ × ℕ)
+first_of bs = if nat_lt (length bs) 24 then None else Some (number_at bs 0, number_at bs 1, number_at bs 2)
 
--- there is room for so many bytes
-abbrev pub room_for : ℕ → ℕ → Answer ℕ
-room_for owed room = cond (nat_lt room owed) (refuses (no_room (min owed top))) (gives owed)
+-- the same, or rule 1
+abbrev pub head_of : List ℕ → Answer (ℕ × ℕ × ℕ)
+head_of bs = cond (nat_lt (length bs) 24) (refuses (bad_parcel 1 (length bs))) (gives (number_at bs 0, number_at bs 1, number_at bs 2))
 
 -- rules 1 to 4, for a copy of n bytes
 abbrev pub head_rules : ℕ → List ℕ → Answer ℕ
@@ -30,6 +30,20 @@ head_rules n bs =
     (cond (not (number_at bs 2 == n)) (refuses (bad_parcel 3 16))
     (cond (nat_lt (pages (number_at bs 2) (number_at bs 0)) (number_at bs 1) || nat_lt (length bs) (24 + 8 * number_at bs 1)) (refuses (bad_parcel 4 8))
     (gives 0))))
+
+-- rule 5, of page numbers of which the first is the i-th number
+abbrev pub wrong_among : ℕ → ℕ → ℕ → List ℕ → Answer ℕ
+wrong_among n low i [] = gives 0
+wrong_among n low i (q ∷ qs) = cond (nat_le low q && nat_lt q n) (wrong_among n (q + 1) (i + 1) qs) (refuses (bad_parcel 5 (i * 8)))
+
+-- the pages that a parcel carries for a memory of n bytes: their size, the memory's length, the bytes of their numbers, and their bytes
+pub record Carries (n : ℕ) (bs : List ℕ) (page total : ℕ) (words bodies : List ℕ) : Type 0 where
+  pub page_is : page ≡ number_at bs 0
+  pub total_is : total ≡ n
+  pub numbers_are : numbers_of words ≡ numbers bs 3 (number_at bs 1)
+  pub long : 24 + length words ≡ 24 + 8 * number_at bs 1
+  pub whole : 24 + length words + length bodies ≡ length bs
+  pub bodies_are : bodies ≡ drop (24 + 8 * number_at bs 1) bs
 
 -- rule 6
 abbrev pub length_rule : ℕ → ℕ → Answer ℕ
@@ -45,10 +59,6 @@ unfoldable pub rules : ℕ → List ℕ → Answer ℕ
 rules n bs =
     let p = number_at bs 0 in let k = number_at bs 1 in
     unless (head_rules n bs) (unless (wrong_from bs (pages (number_at bs 2) p) 0 3 k) (length_rule (length bs) (24 + 8 * k + sum_of (page_length p n) (numbers bs 3 k))))
-
--- the memory's length as a parcel tells it, 0 where it is too short to tell
-abbrev pub told_length : List ℕ → ℕ
-told_length bs = cond (nat_lt (length bs) 24) 0 (number_at bs 2)
 
 -- what a parcel says of itself, unless it breaks a rule: the page size, how many pages it carries, the memory's length
 abbrev pub inspected : List ℕ → Answer (ℕ × ℕ × ℕ)

@@ -1,37 +1,35 @@
 //! How the bytes of a memory lie on pages.
-ghost use Rattle.std.specs.Prelude.{◌≡◌, ◌*◌, ◌<◌};
+ghost use Rattle.std.specs.Prelude.{◌≡◌, ◌*◌, min};
 ghost use Rattle.parcel.specs.Parcels.{pages, page_length};
 
-/// A memory of `total` bytes, in pages of `page` bytes.
+use bitmap::PageSize;
+
+/// A memory of `total` bytes, in pages.
 #[derive(Clone, Copy)]
 pub(crate) struct Layout {
-    pub(crate) page: usize,
+    pub(crate) page_size: PageSize,
     pub(crate) total: usize,
-    ghost paged: { 0 < page },
 }
 
 impl Layout {
     // How many pages there are.
     pub(crate) fn count(self) -> usize
-        ensures { result ≡ pages self.total self.page }
+        ensures { result ≡ pages self.total self.page_size.value }
     {
-        self.total.div_ceil(self.page)
+        self.total.div_ceil(self.page_size.get())
     }
 
-    // Where page `q` starts.
-    pub(crate) fn start(self, q: usize) -> usize
-        requires { q < pages self.total self.page }
-        ensures place { result ≡ q * self.page }
-        ensures within { result < self.total }
+    // Where a page starts: past the last one, at the end.
+    pub(crate) fn start(self, page: usize) -> usize
+        ensures { result ≡ min (page * self.page_size.value) self.total }
     {
-        q * self.page
+        page.saturating_mul(self.page_size.get()).min(self.total)
     }
 
-    // How many bytes page `q` has: the last page may have fewer than the others.
-    pub(crate) fn size(self, q: usize) -> usize
-        requires { q < pages self.total self.page }
-        ensures { result ≡ page_length self.page self.total q }
+    // How many bytes a page has: the last one may have fewer than the others.
+    pub(crate) fn size(self, page: usize) -> usize
+        ensures { result ≡ page_length self.page_size.value self.total page }
     {
-        self.page.min(self.total - self.start(q))
+        self.page_size.get().min(self.total - self.start(page))
     }
 }

@@ -5,11 +5,13 @@
 #![tactic(auto)]
 
 mod applying;
-mod inspecting;
+mod carried;
+mod contents;
+mod dirty_pages;
 mod layout;
 mod numbers;
 mod taking;
 
 pub use applying::apply;
-pub use inspecting::{Contents, inspect, page_number};
+pub use contents::{Contents, inspect, page_number};
 pub use taking::{Taken, take};

@@ -1,20 +1,37 @@
 //! Numbers of 8 bytes, and bytes laid into a buffer.
-ghost use Rattle.std.specs.Prelude.{◌≡◌, ◌+◌, ◌*◌, ◌≤◌, length};
+ghost use Rattle.std.specs.Prelude.{◌≡◌, ◌+◌, ◌≤◌, length};
+ghost use Rattle.std.specs.Iterator.{YieldsFirst, item_count};
 ghost use Rattle.byte_valued.specs.LittleEndian.{bytes_of};
 ghost use Rattle.volatile_memory.specs.Memory.{overlaid};
-ghost use Rattle.parcel.specs.Parcels.{number_at};
+ghost use Rattle.parcel.specs.Parcels.{numbers_of};
 
 use byte_valued::ByteValued;
 
-// Number `i` of a parcel's numbers.
-pub(crate) fn number_at(parcel: &[u8], i: usize) -> usize
-    requires { i * 8 + 8 ≤ length parcel.now }
-    ensures { result ≡ number_at parcel.now i }
-{
-    let at = i * 8;
-    match usize::from_slice(&parcel[at..at + 8]) {
-        Some(number) => number,
-        None => unreachable(),
+/// The numbers that bytes hold, 8 bytes each.
+#[derive(Drop)]
+pub(crate) struct Numbers<'a> {
+    bytes: &'a [u8],
+}
+
+impl<'a> Numbers<'a> {
+    pub(crate) fn new(bytes: &'a [u8]) -> Numbers<'a>
+        ensures { result.bytes.now ≡ bytes.now }
+    {
+        Numbers { bytes }
+    }
+}
+
+impl<'a> Iterator for Numbers<'a> {
+    type Item = usize;
+
+    ghost next_gives = { YieldsFirst (λ s. numbers_of s.bytes.now) };
+
+    ghost remaining = { item_count (λ s. numbers_of s.bytes.now) };
+
+    fn next(&mut self) -> Option<usize> {
+        let (first, rest) = self.bytes.split_at_checked(8)?;
+        self.bytes = rest;
+        usize::from_slice(first)
     }
 }
 

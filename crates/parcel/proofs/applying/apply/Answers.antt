@@ -1,34 +1,22 @@
-use Rattle.std.proofs.Common.{length, refl, arith}
+use Rattle.std.proofs.Common.{length, refl}
 use Rattle.std.proofs.lemmas.Result.{err_from_is_err_and}
-use Rattle.parcel.proofs.AppliedSteps.{kept-rules, rules-applied}
+use Rattle.parcel.proofs.AppliedSteps.{kept_rules, rules-applied}
 use Rattle.parcel.proofs.applying.apply.Goals as goal
 
-pub returns-in_err-check_parcel : goal.returns-in_err-check_parcel
-returns-in_err-check_parcel c =
+pub returns-in_err-pages : goal.returns-in_err-pages
+returns-in_err-pages c =
     let p = err_from_is_err_and c.from_residual.result c.from_residual.ensures.1 in
     let e = rules-applied c.args.copy.now c.args.parcel.now in
-    rw (p.1, p.2, e, ← c.in_err-check_parcel.ensures) (record { answer = refl; after = refl })
+    rw (p.1, p.2, e, ← c.in_err-pages.ensures.answer) (record { answer = refl; after = refl })
 
-pub number_at-count-requires : goal.number_at-count-requires
-number_at-count-requires c = omega (arith, (kept-rules (length c.args.copy.now) c.args.parcel.now c.in_ok-check_parcel.ensures).head.long)
-
-pub number_at-requires : goal.number_at-requires
-number_at-requires c = omega (arith, (kept-rules (length c.args.copy.now) c.args.parcel.now c.in_ok-check_parcel.ensures).head.long)
-
-pub invariant_of-layout : goal.invariant_of-layout
-invariant_of-layout c =
-    record { paged = rw c.number_at.ensures (kept-rules (length c.args.copy.now) c.args.parcel.now c.in_ok-check_parcel.ensures).head.paged }
-
-pub lay_pages-requires : goal.lay_pages-requires
-lay_pages-requires c =
-    let k = kept-rules (length c.args.copy.now) c.args.parcel.now c.in_ok-check_parcel.ensures in
-    record {
-      total = refl;
-      below = rw (← c.number_at.ensures, ← c.number_at-count.ensures) at k.below;
-      whole = rw (← c.number_at.ensures, ← c.number_at-count.ensures) at k.whole;
-    }
+pub lay-requires : goal.lay-requires
+lay-requires c =
+    let is = c.in_ok-pages.ensures.carried in
+    let k = kept_rules (length c.args.copy.now) c.args.parcel.now _ _ _ _ is c.in_ok-pages.ensures.answer in
+    record { total = is.total_is; below = k.0; whole = k.1 }
 
 pub returns : goal.returns
 returns c =
     let e = rules-applied c.args.copy.now c.args.parcel.now in
-    rw (e, ← c.in_ok-check_parcel.ensures, ← c.number_at.ensures, ← c.number_at-count.ensures) (record { answer = refl; after = c.lay_pages.ensures })
+    let is = c.in_ok-pages.ensures.carried in
+    rw (e, ← c.in_ok-pages.ensures.answer, ← is.page_is, ← is.numbers_are, ← is.bodies_are) (record { answer = refl; after = c.lay.ensures })
