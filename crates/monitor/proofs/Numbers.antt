@@ -1,61 +1,58 @@
--- The numbers below a bound that pass a test. Assumes nothing.
-use Rattle.std.proofs.Common.{◌≡◌, ℕ, zero, suc, ◌+◌, ◌<◌, ◌≤◌, Bool, true, false, cond, not, ◌&&◌, ltb, leb, [], ◌∷◌, ◌++◌, sym, refl, ◌∙◌, inl, inr, append-nil, add-one, arith}
-use Rattle.std.proofs.lemmas.Bool.{cases_eq}
+-- The numbers of a range that pass a test. Assumes nothing.
+use Rattle.std.proofs.Common.{◌≡◌, ℕ, zero, suc, ◌+◌, ◌-◌, ◌<◌, ◌≤◌, Bool, false, not, ◌&&◌, ltb, leb, [], ◌∷◌, ◌++◌, filter, sym, refl, ap, ◌∙◌, inl, inr, append-nil, arith}
+use Rattle.std.specs.List.{range_with_len}
+use Rattle.std.proofs.lemmas.Bool.{cases_lt}
 use Rattle.std.proofs.lemmas.Bool.Decides.{nat_tests}
-use Rattle.monitor.specs.Marks.{those, how_many}
+use Rattle.std.proofs.lemmas.List.Elements.{filter-append}
+use Rattle.monitor.specs.Marks.{those}
 
-module _ (p : ℕ → Bool) where
-  those_more : (n : ℕ) → those p (n + 1) ≡ those p n ++ cond (p n) (n ∷ []) []
-  those_more n = rw (add-one n)
+-- a range in two parts
+range-plus : (a m n : ℕ) → range_with_len a (m + n) ≡ range_with_len a m ++ range_with_len (a + m) n
+range-plus a zero n =
+    let none : 0 + n ≡ n = omega arith in
+    let start : a ≡ a + 0 = omega arith in
+    ap (range_with_len a) none ∙ ap (λ k. range_with_len k n) start
+range-plus a (suc m) n =
+    let more : suc m + n ≡ suc (m + n) = omega arith in
+    let start : a + 1 + m ≡ a + suc m = omega arith in
+    ap (range_with_len a) more ∙ ap (λ l. a ∷ l) (range-plus (a + 1) m n ∙ ap (λ k. range_with_len (a + 1) m ++ range_with_len k n) start)
 
-  pub how_many_yes : (n : ℕ) → p n ≡ true → how_many p (n + 1) ≡ how_many p n + 1
-  how_many_yes n e = rw (add-one n, e)
+-- where two tests agree on a range
+pub range_same : (p q : ℕ → Bool) (a n : ℕ) → ((k : ℕ) → a ≤ k → k < a + n → p k ≡ q k) → filter p (range_with_len a n) ≡ filter q (range_with_len a n)
+range_same p q a zero h = refl
+range_same p q a (suc n) h = rw (h a (omega arith) (omega arith), range_same p q (a + 1) n (λ k from to. h k (omega arith) (omega arith)))
 
-  pub how_many_no : (n : ℕ) → p n ≡ false → how_many p (n + 1) ≡ how_many p n
-  how_many_no n e = rw (add-one n, e) (omega arith)
-
-  pub how_many_le : (n : ℕ) → how_many p n ≤ n
-  how_many_le zero = omega arith
-  how_many_le (suc n) = let ih = how_many_le n in grind (arith, nat_tests)
-
-  -- none of them passes
-  pub those_none : (n : ℕ) → ((k : ℕ) → k < n → p k ≡ false) → those p n ≡ []
-  those_none zero h = refl
-  those_none (suc n) h = rw (h n (omega arith), those_none n (λ k l. h k (omega arith)))
-
-  -- none from m on passes
-  pub those_past : (m n : ℕ) → m ≤ n → ((k : ℕ) → m ≤ k → p k ≡ false) → those p n ≡ those p m
-  those_past m zero l h = let e : m ≡ zero = omega arith in rw e
-  those_past m (suc n) l h =
-      elim (cases_eq m (suc n)) [
-        | inl e ↦ rw e
-        | inr e ↦ rw (h n (omega arith)) (append-nil (those p n) ∙ those_past m n (omega arith) h)
-      ]
+-- none of a range passes
+range_none : (p : ℕ → Bool) (a n : ℕ) → ((k : ℕ) → a ≤ k → k < a + n → p k ≡ false) → filter p (range_with_len a n) ≡ []
+range_none p a zero h = refl
+range_none p a (suc n) h = rw (h a (omega arith) (omega arith)) (range_none p (a + 1) n (λ k from to. h k (omega arith) (omega arith)))
 
 pub those_same : (p q : ℕ → Bool) (n : ℕ) → ((k : ℕ) → k < n → p k ≡ q k) → those p n ≡ those q n
-those_same p q zero h = refl
-those_same p q (suc n) h = rw (h n (omega arith), those_same p q n (λ k l. h k (omega arith)))
+those_same p q n h = range_same p q 0 n (λ k from to. h k (omega arith))
 
 -- those of a range that fail a test
 module _ (first end : ℕ) (d : ℕ → Bool) where
   abbrev pub between : ℕ → Bool
   between n = (leb first n && ltb n end) && not (d n)
 
-  pub between_none : those between first ≡ []
-  between_none = those_none between first (λ k l. grind (arith, nat_tests))
+  inside : (count : ℕ) → first ≤ end → end ≤ count → those between count ≡ filter (λ n. not (d n)) (range_with_len first (end - first))
+  inside count rising within =
+      let len = end - first in
+      let rest = count - end in
+      let whole : count ≡ first + (len + rest) = omega arith in
+      let start : 0 + first ≡ first = omega arith in
+      let stop : first + len ≡ end = omega arith in
+      let cut = ap (range_with_len 0) whole ∙ range-plus 0 first (len + rest) ∙ ap (λ k. range_with_len 0 first ++ range_with_len k (len + rest)) start ∙ ap (λ l. range_with_len 0 first ++ l) (range-plus first len rest) in
+      let before = range_none between 0 first (λ k from to. grind (arith, nat_tests)) in
+      let behind = range_none between (first + len) rest (λ k from to. grind (arith, nat_tests)) in
+      let at = range_same between (λ n. not (d n)) first len (λ k from to. grind (arith, nat_tests)) in
+      ap (filter between) cut ∙ filter-append between (range_with_len 0 first) _ ∙ ap (λ l. l ++ filter between (range_with_len first len ++ range_with_len (first + len) rest)) before ∙ filter-append between (range_with_len first len) _ ∙ ap (λ l. filter between (range_with_len first len) ++ l) behind ∙ append-nil _ ∙ at
 
-  pub between_yes : (n : ℕ) → first ≤ n → n < end → d n ≡ false → those between (n + 1) ≡ those between n ++ (n ∷ [])
-  between_yes n from to not_d =
-      let e : between n ≡ true = grind (arith, nat_tests) in
-      rw (those_more between n, e)
-
-  pub between_no : (n : ℕ) → d n ≡ true → those between (n + 1) ≡ those between n
-  between_no n is_d =
-      let e : between n ≡ false = grind (arith, nat_tests) in
-      rw (those_more between n, e) (append-nil (those between n))
-
-  -- past the end of the range nothing is added
-  pub between_past : (m n : ℕ) → end ≤ m → end ≤ n → those between m ≡ those between n
-  between_past m n l k =
-      let out : (j : ℕ) → end ≤ j → between j ≡ false = λ j h. grind (arith, nat_tests) in
-      those_past between end m l out ∙ sym (those_past between end n k out)
+  pub those_between : (count : ℕ) → end ≤ count → those between count ≡ filter (λ n. not (d n)) (range_with_len first (end - first))
+  those_between count within =
+      elim (cases_lt end first) [
+        | inl less ↦
+            let none : end - first ≡ 0 = omega arith in
+            range_none between 0 count (λ k from to. grind (arith, nat_tests)) ∙ ap (λ n. filter (λ k. not (d k)) (range_with_len first n)) (sym none)
+        | inr rising ↦ inside count rising within
+      ]

@@ -1,9 +1,9 @@
 -- What one access more turns. Assumes nothing.
-use Rattle.std.proofs.Common.{◌≡◌, ℕ, ◌+◌, ◌<◌, Bool, true, false, cond, not, ◌&&◌, ltb, List, [], ◌∷◌, ◌++◌, length, get_or, take, vec_items, sym, refl, ap, ◌∙◌, arith}
+use Rattle.std.proofs.Common.{◌≡◌, ℕ, ◌+◌, ◌<◌, Bool, true, false, cond, not, ◌&&◌, ltb, List, [], ◌∷◌, ◌++◌, length, get_or, take, sym, refl, ap, ◌∙◌, arith}
 use Rattle.std.proofs.lemmas.List.{take_more}
 use Rattle.std.proofs.lemmas.Bool.Decides.{nat_tests}
 use Rattle.bitmap.specs.Pages.{Meaning, dirty, reaches, assigned, marked}
-use Rattle.monitor.specs.Marks.{those, turned, accessed, after, turns, spread, told}
+use Rattle.monitor.specs.Marks.{those, turned, accessed, after, turns, told}
 use Rattle.monitor.specs.declared.account.Entry.{Entry}
 use Rattle.monitor.specs.declared.trace.Access.{Access}
 use Rattle.monitor.proofs.Numbers.{those_same}
@@ -28,19 +28,19 @@ turns_push : (b : Meaning) (xs : List Access) (a : Access) → turns b (xs ++ (a
 turns_push b [] a = refl
 turns_push b (x ∷ xs) a = ap (λ l. (x, turned b (accessed b x)) ∷ l) (turns_push (accessed b x) xs a)
 
-told_push : (es : List Entry) (e : Entry) → told (es ++ (e ∷ [])) ≡ told es ++ ((e.access, spread (vec_items e.turned)) ∷ [])
+told_push : (es : List Entry) (e : Entry) → told (es ++ (e ∷ [])) ≡ told es ++ ((e.access, e.turned) ∷ [])
 told_push [] e = refl
-told_push (x ∷ es) e = ap (λ l. (x.access, spread (vec_items x.turned)) ∷ l) (told_push es e)
+told_push (x ∷ es) e = ap (λ l. (x.access, x.turned) ∷ l) (told_push es e)
 
 -- a is the next access, from b₁ to b₂
 module _ (b b₁ b₂ : Meaning) (xs : List Access) (i : ℕ) (d : Access) (less : i < length xs) (at : b₁ ≡ after b (take i xs)) (step : b₂ ≡ accessed b₁ (get_or xs i d)) where
   pub after_more : b₂ ≡ after b (take (i + 1) xs)
   after_more = step ∙ ap (λ m. accessed m (get_or xs i d)) at ∙ sym (after_push b (take i xs) (get_or xs i d)) ∙ ap (after b) (sym (take_more xs i d less))
 
-  pub turns_more : (es : List Entry) (e : Entry) → told es ≡ turns b (take i xs) → e.access ≡ get_or xs i d → spread (vec_items e.turned) ≡ turned b₁ b₂ → told (es ++ (e ∷ [])) ≡ turns b (take (i + 1) xs)
+  pub turns_more : (es : List Entry) (e : Entry) → told es ≡ turns b (take i xs) → e.access ≡ get_or xs i d → e.turned ≡ turned b₁ b₂ → told (es ++ (e ∷ [])) ≡ turns b (take (i + 1) xs)
   turns_more es e before is pages =
       let a = get_or xs i d in
-      let entry : Access × List ℕ = (e.access, spread (vec_items e.turned)) in
+      let entry : Access × List ℕ = (e.access, e.turned) in
       let now : turned b₁ b₂ ≡ turned (after b (take i xs)) (accessed (after b (take i xs)) a) = ap (turned b₁) step ∙ ap (λ m. turned m (accessed m a)) at in
       let same : entry ≡ (a, turned (after b (take i xs)) (accessed (after b (take i xs)) a)) = λ j. (is j, (pages ∙ now) j) in
       told_push es e ∙ ap (λ l. l ++ (entry ∷ [])) before ∙ ap (λ p. turns b (take i xs) ++ (p ∷ [])) same ∙ sym (turns_push b (take i xs) a) ∙ ap (turns b) (sym (take_more xs i d less))

@@ -2,7 +2,7 @@
 use Rattle.std.specs.Prelude.{◌≡◌, ℕ, ◌<◌, List, [], ◌∷◌, ◌++◌, length}
 use Rattle.std.specs.Char.{is_whitespace, is_not_whitespace}
 use Rattle.std.specs.Str.{NoCharPasses, EmptyOrStartsWithPassing}
-use Rattle.monitor.specs.Numerals.{Writes}
+use Rattle.text.specs.Numerals.{Writes}
 
 -- bs is white space, the field w, and rest, which is empty or begins with white space
 pub record Field (bs w rest : List ℕ) : Type 0 where

@@ -1,4 +1,3 @@
-pub mod Numerals
 pub mod Fields
 pub mod Texts
 pub mod Marks

@@ -1,27 +1,25 @@
 //! The marks of a trace, and the account of them.
-ghost use Rattle.std.specs.Prelude.{◌≡◌, ℕ, ◌^◌, ◌<◌, ◌≤◌, not, ◌&&◌, [], ◌∷◌, ◌++◌, IfOk, OnOk, nat_le, nat_lt};
+ghost use Rattle.std.specs.Prelude.{◌≡◌, ℕ, ◌^◌, ◌<◌, ◌≤◌, not, ◌&&◌, IfOk, OnOk, nat_le, nat_lt};
 ghost use Rattle.bitmap.specs.Pages.{dirty, reaches};
 ghost use Rattle.bitmap.specs.Tracked.{tracked};
-ghost use Rattle.monitor.specs.Marks.{those, dirty_count, turned as turned_pages, accessed, after, turns, spread, told, Shows, Sums, log_of, clean_log, Accounts};
+ghost use Rattle.monitor.specs.Marks.{those, dirty_count, turned as turned_pages, accessed, after, turns, told, Sums, log_of, clean_log, Accounts};
 
 use crate::memory::Memory;
-use crate::page_range::PageRange;
 use crate::trace::{Access, Trace};
 use bitmap::{AtomicBitmap, Bitmap, ByteLog, CleanBitmap, dirty_share};
 use std::alloc::{AllocError, Global};
 use std::fmt;
+use std::ops::Range;
+use text::{PageMap, PageRanges};
 
-// How many pages stand on a line.
-const PAGES_A_LINE: usize = 64;
-
-// How many bytes of the log do.
+// How many bytes of the log stand on a line.
 const BYTES_A_LINE: usize = 16;
 
 /// An access, and the pages that it turned from clean to dirty.
 #[derive(Drop)]
 struct Entry {
     access: Access,
-    turned: Vec<PageRange>,
+    turned: PageRanges,
 }
 
 /// How many pages are dirty, of how many, and their share in thousandths.
@@ -37,7 +35,7 @@ struct Summary {
 pub(crate) struct Account {
     memory: Memory,
     entries: Vec<Entry>,
-    pages: Vec<bool>,
+    pages: PageMap,
     log: Vec<u8>,
     summary: Summary,
 }
@@ -51,7 +49,7 @@ impl Account {
         let mut words = vec![in heap; 0u64; memory.pages().div_ceil(64)]?;
         let mut map = AtomicBitmap::new(memory.byte_size, memory.page_size, words.as_mut_slice());
         let entries = mark_all(heap, &mut map, trace.accesses.as_slice())?;
-        let pages = page_map(heap, &map)?;
+        let pages = PageMap::new(heap, &map)?;
         let summary = Summary::new(&map);
         let log = log_bytes(heap, memory, trace.accesses.as_slice())?;
         Ok(Account {
@@ -85,8 +83,8 @@ fn mark_all(
 }
 
 // Marks an access, and tells which pages it turned.
-fn mark(heap: Global, map: &mut AtomicBitmap, access: Access) -> Result<Vec<PageRange>, AllocError>
-    ensures turned { IfOk result (λ v. spread v.items ≡ turned_pages (tracked map.old) (tracked map.new)) }
+fn mark(heap: Global, map: &mut AtomicBitmap, access: Access) -> Result<PageRanges, AllocError>
+    ensures turned { IfOk result (λ pages. pages ≡ turned_pages (tracked map.old) (tracked map.new)) }
     ensures means { OnOk result (tracked map.new ≡ accessed (tracked map.old) access) }
 {
     let turned = clean_pages(heap, map, access)?;
@@ -95,64 +93,27 @@ fn mark(heap: Global, map: &mut AtomicBitmap, access: Access) -> Result<Vec<Page
 }
 
 // The clean pages that an access reaches.
-fn clean_pages(
-    heap: Global,
-    map: &AtomicBitmap,
-    access: Access,
-) -> Result<Vec<PageRange>, AllocError>
-    ensures { IfOk result (λ v. spread v.items ≡ those (λ n. reaches (tracked map.now) access.offset access.len n && not (dirty (tracked map.now) n)) (tracked map.now).count) }
+fn clean_pages(heap: Global, map: &AtomicBitmap, access: Access) -> Result<PageRanges, AllocError>
+    ensures { IfOk result (λ pages. pages ≡ those (λ n. reaches (tracked map.now) access.offset access.len n && not (dirty (tracked map.now) n)) (tracked map.now).count) }
 {
-    let (first, end) = reached(map, access);
-    let mut clean = Vec::new(heap);
-    for page in first..end {
-        if !map.is_bit_set(page) {
-            add_page(&mut clean, page)?;
-        }
-    }
-    Ok(clean)
+    reached(map, access)
+        .filter(|page| !map.is_bit_set(*page))
+        .collect(heap)
 }
 
-// The pages that an access reaches, from the first number up to the second.
-fn reached(map: &AtomicBitmap, access: Access) -> (usize, usize)
-    ensures within { result.1 ≤ (tracked map.now).count }
-    ensures pages { (n : ℕ) → reaches (tracked map.now) access.offset access.len n ≡ (nat_le result.0 n && nat_lt n result.1) }
+// The pages that an access reaches.
+fn reached(map: &AtomicBitmap, access: Access) -> Range<usize>
+    ensures within { result.end ≤ (tracked map.now).count }
+    ensures pages { (n : ℕ) → reaches (tracked map.now) access.offset access.len n ≡ (nat_le result.start n && nat_lt n result.end) }
 {
     if access.len == 0 {
-        return (0, 0);
+        return 0..0;
     }
     let page_size = map.page_size().get();
     let first = access.offset / page_size;
     // An access past the top of the address space ends there.
     let last = access.offset.saturating_add(access.len - 1) / page_size;
-    (first, last.saturating_add(1).min(map.len()))
-}
-
-// Adds a page behind the others.
-pub(crate) fn add_page(ranges: &mut Vec<PageRange>, page: usize) -> Result<(), AllocError>
-    ensures { OnOk result (spread ranges.new.items ≡ spread ranges.old.items ++ (page ∷ [])) }
-{
-    if let Some(range) = ranges.last_mut() {
-        if range.last < page && page - range.last == 1 {
-            range.last = page;
-            return Ok(());
-        }
-    }
-    ranges.push(PageRange {
-        first: page,
-        last: page,
-    })?;
-    Ok(())
-}
-
-// Whether each page is dirty.
-fn page_map(heap: Global, map: &AtomicBitmap) -> Result<Vec<bool>, AllocError>
-    ensures { IfOk result (λ v. Shows (tracked map.now) v.items) }
-{
-    let mut pages = Vec::new(heap);
-    for page in 0..map.len() {
-        pages.push(map.is_bit_set(page))?;
-    }
-    Ok(pages)
+    first..last.saturating_add(1).min(map.len())
 }
 
 impl Summary {
@@ -175,13 +136,7 @@ fn dirty_count(map: &AtomicBitmap) -> u32
     requires { (tracked map.now).count < 2 ^ 32 }
     ensures { result ≡ dirty_count (tracked map.now) }
 {
-    let mut dirty = 0u32;
-    for page in 0..map.len() {
-        if map.is_bit_set(page) {
-            dirty += 1;
-        }
-    }
-    dirty
+    (0..map.len()).filter(|page| map.is_bit_set(*page)).count() as u32
 }
 
 // The bytes of a memory's log, with accesses marked.
@@ -207,12 +162,13 @@ impl fmt::Display for Account {
     fn fmt<W: fmt::Write>(&self, f: &mut fmt::Formatter<W>) -> fmt::Result {
         let byte_size = self.memory.byte_size;
         let page_size = self.memory.page_size.get();
+        let pages = &self.pages;
         let summary = self.summary;
         writeln!(f, "memory: {byte_size} bytes, pages of {page_size} bytes")?;
         writeln!(f, "\naccesses:")?;
         write_entries(f, self.entries.as_slice())?;
         writeln!(f, "\npages:")?;
-        write_pages(f, self.pages.as_slice())?;
+        write!(f, "{pages}")?;
         writeln!(f, "\nlog:")?;
         write_log(f, self.log.as_slice())?;
         writeln!(f, "\n{summary}")
@@ -226,26 +182,9 @@ fn write_entries<W: fmt::Write>(f: &mut fmt::Formatter<W>, entries: &[Entry]) ->
     Ok(())
 }
 
-fn write_pages<W: fmt::Write>(f: &mut fmt::Formatter<W>, pages: &[bool]) -> fmt::Result {
-    for (index, line) in pages.chunks(PAGES_A_LINE).enumerate() {
-        let first = index * PAGES_A_LINE;
-        write!(f, "{first:>8}  ")?;
-        write_marks(f, line)?;
-        writeln!(f)?;
-    }
-    Ok(())
-}
-
-fn write_marks<W: fmt::Write>(f: &mut fmt::Formatter<W>, pages: &[bool]) -> fmt::Result {
-    for dirty in pages {
-        f.write_char(if *dirty { '#' } else { '.' })?;
-    }
-    Ok(())
-}
-
 fn write_log<W: fmt::Write>(f: &mut fmt::Formatter<W>, bytes: &[u8]) -> fmt::Result {
-    for (index, line) in bytes.chunks(BYTES_A_LINE).enumerate() {
-        let first = index * BYTES_A_LINE;
+    let firsts = (0..bytes.len()).step_by(BYTES_A_LINE);
+    for (first, line) in firsts.zip(bytes.chunks(BYTES_A_LINE)) {
         write!(f, "{first:>8} ")?;
         write_bytes(f, line)?;
         writeln!(f)?;
@@ -264,25 +203,14 @@ impl fmt::Display for Entry {
     fn fmt<W: fmt::Write>(&self, f: &mut fmt::Formatter<W>) -> fmt::Result {
         let offset = self.access.offset;
         let len = self.access.len;
-        let turned = match self.turned.as_slice() {
-            [] => "no page",
-            [range] if range.first == range.last => "page",
-            _ => "pages",
-        };
-        write!(f, "offset {offset}, length {len}: turned {turned}")?;
-        write_ranges(f, self.turned.as_slice())
+        let turned = &self.turned;
+        write!(f, "offset {offset}, length {len}: turned ")?;
+        match turned.as_slice() {
+            [] => f.write_str("no page"),
+            [range] if range.first == range.last => write!(f, "page {turned}"),
+            _ => write!(f, "pages {turned}"),
+        }
     }
-}
-
-pub(crate) fn write_ranges<W: fmt::Write>(
-    f: &mut fmt::Formatter<W>,
-    ranges: &[PageRange],
-) -> fmt::Result {
-    for (index, range) in ranges.iter().enumerate() {
-        let comma = if index == 0 { "" } else { "," };
-        write!(f, "{comma} {range}")?;
-    }
-    Ok(())
 }
 
 impl fmt::Display for Summary {

@@ -1,6 +1,6 @@
 //! What the program is asked for.
-use std::error::Error;
-use std::{env, fmt};
+use std::env;
+use thiserror::Error;
 
 /// A command, with the paths of its files.
 #[derive(Drop)]
@@ -24,43 +24,28 @@ pub(crate) enum Command {
     Show(String),
 }
 
+const USAGE: &str =
+    "usage: monitor marks [FILE] | replay SCRIPT | take MEMORY LOG PARCEL | apply COPY PARCEL | show PARCEL";
+
 /// Arguments that the program does not take.
-#[derive(Debug, Drop)]
+#[derive(Debug, Drop, Error)]
 pub(crate) enum UsageError {
+    #[error("no command; {USAGE}")]
     NoCommand,
+    #[error("unknown command {0:?}; {USAGE}")]
     UnknownCommand(String),
+    #[error("too many arguments; {USAGE}")]
     TooManyArguments,
+    #[error("too few or too many arguments for {0}; {USAGE}")]
     WrongArguments(String),
+    #[error("{0}: the parcel would take its place")]
     SameFile(String),
-}
-
-impl Error for UsageError {}
-
-impl fmt::Display for UsageError {
-    fn fmt<W: fmt::Write>(&self, f: &mut fmt::Formatter<W>) -> fmt::Result {
-        match self {
-            UsageError::NoCommand => f.write_str("no command")?,
-            UsageError::UnknownCommand(command) => write!(f, "unknown command {command:?}")?,
-            UsageError::TooManyArguments => f.write_str("too many arguments")?,
-            UsageError::WrongArguments(command) => {
-                write!(f, "too few or too many arguments for {command}")?
-            }
-            UsageError::SameFile(path) => {
-                return write!(f, "{path}: the parcel would take its place");
-            }
-        }
-        f.write_str(
-            "; usage: monitor marks [FILE] | replay SCRIPT | take MEMORY LOG PARCEL | apply COPY PARCEL | show PARCEL",
-        )
-    }
 }
 
 /// What the arguments ask for.
 pub(crate) fn command_of(mut args: env::Args) -> Result<Command, UsageError> {
     let _program = args.next();
-    let Some(command) = args.next() else {
-        return Err(UsageError::NoCommand);
-    };
+    let command = args.next().ok_or(UsageError::NoCommand)?;
     let first = args.next();
     let second = args.next();
     let third = args.next();

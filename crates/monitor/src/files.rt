@@ -1,41 +1,27 @@
 //! Files read and written whole.
-use std::error::Error;
 use std::fs::File;
 use std::io::Write;
-use std::{fmt, fs, io};
+use std::{fs, io};
+use thiserror::Error;
 
 /// A file that cannot be read or written.
-#[derive(Debug, Drop)]
+#[derive(Debug, Drop, Error)]
+#[error("{path}: {error}")]
 struct Unusable<'a> {
     path: &'a str,
     error: io::Error,
 }
 
-impl Error for Unusable<'_> {}
-
-impl fmt::Display for Unusable<'_> {
-    fn fmt<W: fmt::Write>(&self, f: &mut fmt::Formatter<W>) -> fmt::Result {
-        let path = self.path;
-        let error = &self.error;
-        write!(f, "{path}: {error}")
-    }
-}
-
 /// The bytes of a file.
 pub(crate) fn read_file(rt: &HostRuntime, path: &str) -> anyhow::Result<Vec<u8>> {
-    match fs::read(rt, path) {
-        Ok(bytes) => Ok(bytes),
-        Err(error) => Err(Unusable { path, error }.into()),
-    }
+    Ok(fs::read(rt, path).map_err(|error| Unusable { path, error })?)
 }
 
 /// Writes a file whole or not at all: the bytes go to a file beside it, which takes its place once they are on the disk.
 pub(crate) fn write_file(rt: &HostRuntime, path: &str, bytes: &[u8]) -> anyhow::Result<()> {
     let draft = format!(in rt.alloc(); "{path}.part")?;
-    match replace_file(rt, draft.as_str(), path, bytes) {
-        Ok(()) => Ok(()),
-        Err(error) => Err(Unusable { path, error }.into()),
-    }
+    replace_file(rt, draft.as_str(), path, bytes).map_err(|error| Unusable { path, error })?;
+    Ok(())
 }
 
 fn replace_file(rt: &HostRuntime, draft: &str, path: &str, bytes: &[u8]) -> io::Result<()> {

@@ -5,7 +5,6 @@ mod account;
 mod arguments;
 mod files;
 mod memory;
-mod page_range;
 mod parcels;
 mod trace;
 
@@ -13,9 +12,13 @@ use account::Account;
 use arguments::{Command, command_of};
 use files::read_file;
 use replay::replay;
+use std::alloc::Global;
 use std::env;
+use std::fmt::Display;
 use std::io::Read;
 use std::process::ExitCode;
+use text::decode;
+use trace::{TraceError, parse};
 
 fn read_input(rt: &HostRuntime) -> anyhow::Result<Vec<u8>> {
     let mut bytes = Vec::new(rt.alloc());
@@ -23,30 +26,31 @@ fn read_input(rt: &HostRuntime) -> anyhow::Result<Vec<u8>> {
     Ok(bytes)
 }
 
-// Prints the account of a trace.
-fn marks(rt: &HostRuntime, bytes: &[u8]) -> anyhow::Result<()> {
-    let heap = rt.alloc();
-    let trace = trace::parse(heap, trace::decode(bytes)?)?;
-    let account = Account::new(heap, &trace)?;
-    let text = format!(in heap; "{account}")?;
-    rt.print(text.as_str())?;
-    Ok(())
+// The account of a trace.
+fn marks(heap: Global, bytes: &[u8]) -> anyhow::Result<Account> {
+    let text = decode(bytes).map_err(TraceError::from)?;
+    let trace = parse(heap, text)?;
+    Ok(Account::new(heap, &trace)?)
 }
 
-// Prints the account of a script.
-fn replayed(rt: &HostRuntime, bytes: &[u8]) -> anyhow::Result<()> {
-    let heap = rt.alloc();
-    let account = replay(heap, bytes)?;
-    let text = format!(in heap; "{account}")?;
+// Prints an account, once all of it is made.
+fn print<T: Display>(rt: &HostRuntime, account: &T) -> anyhow::Result<()> {
+    let text = format!(in rt.alloc(); "{account}")?;
     rt.print(text.as_str())?;
     Ok(())
 }
 
 fn run(rt: &HostRuntime) -> anyhow::Result<()> {
     match command_of(env::args(rt)?)? {
-        Command::Marks(None) => marks(rt, read_input(rt)?.as_slice()),
-        Command::Marks(Some(path)) => marks(rt, read_file(rt, path.as_str())?.as_slice()),
-        Command::Replay(path) => replayed(rt, read_file(rt, path.as_str())?.as_slice()),
+        Command::Marks(None) => print(rt, &marks(rt.alloc(), read_input(rt)?.as_slice())?),
+        Command::Marks(Some(path)) => {
+            let bytes = read_file(rt, path.as_str())?;
+            print(rt, &marks(rt.alloc(), bytes.as_slice())?)
+        }
+        Command::Replay(path) => {
+            let bytes = read_file(rt, path.as_str())?;
+            print(rt, &replay(rt.alloc(), bytes.as_slice())?)
+        }
         Command::Take {
             memory,
             log,

@@ -4,10 +4,8 @@ ghost use Rattle.bitmap.specs.Pages.{ceiling};
 ghost use Rattle.monitor.specs.declared.memory.TooManyPages.TheVariants.{InBitmap, InLog};
 
 use bitmap::PageSize;
-use std::fmt;
-
-// The most pages that are tracked, in the bitmap and in the log.
-const MOST_PAGES: usize = 1048576;
+use text::MOST_PAGES;
+use thiserror::Error;
 
 // How many bytes a page of the log has.
 const LOG_PAGE_SIZE: usize = 4096;
@@ -21,11 +19,19 @@ pub(crate) struct Memory {
     ghost logged: { ceiling byte_size 4096 ≤ 1048576 },
 }
 
-/// More pages than are tracked.
-#[derive(Clone, Copy, Debug)]
+/// More pages than are tracked, in the bitmap or in the log.
+#[derive(Clone, Copy, Debug, Error)]
 pub(crate) enum TooManyPages {
+    #[error("{0} pages, and at most {most} are tracked", most = MOST_PAGES)]
     InBitmap(usize),
+    #[error("{0} pages of the log, and at most {most} are tracked", most = MOST_PAGES)]
     InLog(usize),
+}
+// How many pages of the log a number of bytes takes.
+fn log_pages(byte_size: usize) -> usize
+    ensures { result ≡ ceiling byte_size 4096 }
+{
+    byte_size.div_ceil(LOG_PAGE_SIZE)
 }
 
 impl Memory {
@@ -34,11 +40,11 @@ impl Memory {
         ensures made { IfOk result (λ m. (m.byte_size ≡ byte_size) × (m.page_size ≡ page_size)) }
         ensures refused { IfErr result (λ e. elim e [ InBitmap n ↦ (n ≡ ceiling byte_size page_size.value) × (1048576 < n) | InLog n ↦ (n ≡ ceiling byte_size 4096) × (1048576 < n) ]) }
     {
-        let pages = count(byte_size, page_size.get());
+        let pages = page_size.pages(byte_size);
         if pages > MOST_PAGES {
             return Err(TooManyPages::InBitmap(pages));
         }
-        let log_pages = count(byte_size, LOG_PAGE_SIZE);
+        let log_pages = log_pages(byte_size);
         if log_pages > MOST_PAGES {
             return Err(TooManyPages::InLog(log_pages));
         }
@@ -52,37 +58,13 @@ impl Memory {
     pub(crate) fn pages(&self) -> usize
         ensures { result ≡ ceiling self.now.byte_size self.now.page_size.value }
     {
-        count(self.byte_size, self.page_size.get())
+        self.page_size.pages(self.byte_size)
     }
 
     /// How many pages it has in the log.
     pub(crate) fn log_pages(&self) -> usize
         ensures { result ≡ ceiling self.now.byte_size 4096 }
     {
-        count(self.byte_size, LOG_PAGE_SIZE)
+        log_pages(self.byte_size)
     }
-}
-
-impl fmt::Display for TooManyPages {
-    fn fmt<W: fmt::Write>(&self, f: &mut fmt::Formatter<W>) -> fmt::Result {
-        match self {
-            TooManyPages::InBitmap(pages) => {
-                write!(f, "{pages} pages, and at most {MOST_PAGES} are tracked")
-            }
-            TooManyPages::InLog(pages) => {
-                write!(
-                    f,
-                    "{pages} pages of the log, and at most {MOST_PAGES} are tracked"
-                )
-            }
-        }
-    }
-}
-
-// How many pages a number of bytes takes.
-fn count(byte_size: usize, page_size: usize) -> usize
-    requires { 0 < page_size }
-    ensures { result ≡ ceiling byte_size page_size }
-{
-    byte_size.div_ceil(page_size)
 }

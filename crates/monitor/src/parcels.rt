@@ -1,72 +1,40 @@
 //! Parcels as files: taken from a memory image and its dirty log, applied to a copy, and shown.
-use crate::account::{add_page, write_ranges};
 use crate::files::{read_file, write_file};
-use crate::page_range::PageRange;
 use bitmap::ByteLog;
-use byte_valued::ByteValued;
-use parcel::{Contents, apply, inspect, take};
+use parcel::{Contents, apply, inspect, page_number, take};
 use std::alloc::{AllocError, Global};
-use std::error::Error;
 use std::fmt;
+use text::PageRanges;
+use thiserror::Error;
 use volatile_memory::Error as Refusal;
 
 /// Why there is no parcel, or none is applied.
-#[derive(Drop)]
+#[derive(Debug, Drop, Error)]
 pub(crate) enum ParcelError {
-    Refused(Refusal),
-    OutOfMemory(AllocError),
+    #[error(transparent)]
+    Refused(#[from] Refusal),
+    #[error(transparent)]
+    OutOfMemory(#[from(alloc)] AllocError),
 }
 
-impl Error for ParcelError {}
-
-impl fmt::Debug for ParcelError {
-    fn fmt<W: fmt::Write>(&self, f: &mut fmt::Formatter<W>) -> fmt::Result {
-        write!(f, "{self}")
-    }
-}
-
-impl fmt::Display for ParcelError {
-    fn fmt<W: fmt::Write>(&self, f: &mut fmt::Formatter<W>) -> fmt::Result {
-        match self {
-            ParcelError::Refused(refusal) => write!(f, "{refusal}"),
-            ParcelError::OutOfMemory(error) => write!(f, "{error}"),
-        }
-    }
-}
-
-impl From<Refusal> for ParcelError {
-    fn from(refusal: Refusal) -> ParcelError {
-        ParcelError::Refused(refusal)
-    }
-}
-
-impl From<AllocError> for ParcelError {
-    fn from(error: AllocError) -> ParcelError {
-        ParcelError::OutOfMemory(error)
-    }
-}
-
-/// What a parcel carries, and its pages as ranges.
+/// What a parcel carries, and its pages.
 #[derive(Drop)]
 struct Listing {
     length: usize,
     contents: Contents,
-    ranges: Vec<PageRange>,
+    pages: PageRanges,
 }
 
 impl Listing {
     fn new(heap: Global, parcel: &[u8]) -> Result<Listing, ParcelError> {
         let contents = inspect(parcel)?;
-        let mut ranges = Vec::new(heap);
-        for number in parcel.chunks(8).skip(3).take(contents.pages) {
-            if let Some(page) = usize::from_slice(number) {
-                add_page(&mut ranges, page)?;
-            }
-        }
+        let pages = (0..contents.pages)
+            .filter_map(|index| page_number(parcel, index))
+            .collect(heap)?;
         Ok(Listing {
             length: parcel.len(),
             contents,
-            ranges,
+            pages,
         })
     }
 }
@@ -76,15 +44,15 @@ impl fmt::Display for Listing {
         let length = self.length;
         let total = self.contents.total;
         let page_size = self.contents.page_size;
-        let pages = self.contents.pages;
+        let count = self.contents.pages;
         writeln!(f, "parcel: {length} bytes")?;
         writeln!(f, "memory: {total} bytes, pages of {page_size} bytes")?;
-        write!(f, "pages carried: {pages}")?;
-        if pages == 0 {
-            return Ok(());
+        write!(f, "pages carried: {count}")?;
+        if count > 0 {
+            let pages = &self.pages;
+            write!(f, ": {pages}")?;
         }
-        write!(f, ":")?;
-        write_ranges(f, self.ranges.as_slice())
+        Ok(())
     }
 }
 
@@ -126,11 +94,7 @@ pub(crate) fn apply_files(rt: &HostRuntime, copy: &str, parcel: &str) -> anyhow:
     let heap = rt.alloc();
     let mut image = read_file(rt, copy)?;
     let bytes = read_file(rt, parcel)?;
-    let applied: Result<(), ParcelError> = match apply(image.as_mut_slice(), bytes.as_slice()) {
-        Ok(()) => Ok(()),
-        Err(refusal) => Err(refusal.into()),
-    };
-    applied?;
+    apply(image.as_mut_slice(), bytes.as_slice())?;
     let listing = Listing::new(heap, bytes.as_slice())?;
     write_file(rt, copy, image.as_slice())?;
     rt.println(listing)?;

@@ -1,5 +1,5 @@
 -- The account of a script, line by line. Assumes nothing.
-use Rattle.std.specs.Prelude.{ℕ, List, [], ◌∷◌, vec_items, string_bytes}
+use Rattle.std.specs.Prelude.{ℕ, List, ◌∷◌, map, vec_items, string_bytes}
 use Rattle.text.specs.Said.{Says}
 use Rattle.script.specs.Scripts.{Small}
 use Rattle.replay.specs.declared.account.Account.{Account}
@@ -7,8 +7,7 @@ use Rattle.replay.specs.declared.account.Entry.{Entry}
 
 -- the lines of entries, by number and text
 abbrev pub told : List Entry → List (ℕ × List ℕ)
-told [] = []
-told (e ∷ es) = (e.number, string_bytes e.text) ∷ told es
+told es = map (λ e. (e.number, string_bytes e.text)) es
 
 -- the first line that says something sets up the memory, and there is an entry for each further one, in order
 pub record Played (bytes : List ℕ) (a : Account) : Type 0 where

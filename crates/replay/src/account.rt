@@ -5,24 +5,25 @@ ghost use Rattle.text.specs.PageMaps.{Shows};
 ghost use Rattle.script.specs.Scripts.{listed};
 ghost use Rattle.replay.specs.Played.{told, Played};
 
-use crate::claims::{OpenClaim, settle_all};
-use crate::comparison::Comparison;
-use crate::fault::{Fault, ReplayError};
-use crate::outcome::Outcome;
-use crate::player::Player;
+use crate::answer::Answer;
+use crate::claims::Claims;
+use crate::comparison::Difference;
+use crate::fault::{Fault, Halt, ReplayError};
+use crate::guest::Guest;
+use crate::player::{Player, first_views};
 use bitmap::AtomicBitmap;
 use script::{Setup, Step, parse};
 use std::alloc::Global;
 use std::fmt;
 use text::PageMap;
-use volatile_memory::VolatileSlice;
+use volatile_memory::{Error, VolatileSlice};
 
-/// A line of a script, what it answered, and the pages after it.
+/// A line of a script, its answer or its refusal, and the pages after it.
 #[derive(Drop)]
 struct Entry {
     number: usize,
     text: String,
-    outcome: Outcome,
+    answer: Result<Answer, Error>,
     pages: PageMap,
 }
 
@@ -31,43 +32,38 @@ struct Entry {
 pub struct Account {
     setup: Setup,
     entries: Vec<Entry>,
-    copy: Comparison,
+    difference: Option<Difference>,
 }
 
-// Plays a step, and tells what it answered.
-fn entry_of(
-    heap: Global,
-    player: &mut Player,
-    map: &mut AtomicBitmap,
-    claims: &mut Vec<OpenClaim>,
-    step: &Step,
-) -> Result<Entry, ReplayError>
-    ensures line { IfOk result (λ e. (e.number ≡ step.now.number) × (string_bytes e.text ≡ string_bytes step.now.text)) }
-    ensures pages { IfOk result (λ e. Shows (tracked map.new) e.pages.pages.items) }
-{
-    match player.play(heap, map, claims, &step.command) {
-        Ok(outcome) => Ok(Entry {
-            number: step.number,
-            text: step.text.clone()?,
-            outcome,
-            pages: PageMap::new(heap, map)?,
-        }),
-        Err(fault) => Err(ReplayError::new(step.number, fault)),
+// What a step answers, where it is played.
+fn answer_of(player: &mut Player, step: &Step) -> Result<Result<Answer, Error>, ReplayError> {
+    match player.play(&step.command) {
+        Ok(answer) => Ok(Ok(answer)),
+        Err(Halt::Refused(error)) => Ok(Err(error)),
+        Err(Halt::Fault(fault)) => Err(ReplayError::Line(step.number, fault)),
     }
 }
 
-fn entries_of(
-    heap: Global,
-    player: &mut Player,
-    map: &mut AtomicBitmap,
-    claims: &mut Vec<OpenClaim>,
-    steps: &[Step],
-) -> Result<Vec<Entry>, ReplayError>
+// Plays a step, and tells what it answered.
+fn entry_of(player: &mut Player, step: &Step) -> Result<Entry, ReplayError>
+    ensures line { IfOk result (λ e. (e.number ≡ step.now.number) × (string_bytes e.text ≡ string_bytes step.now.text)) }
+    ensures pages { IfOk result (λ e. Shows (tracked player.new.guest.map) e.pages.pages.items) }
+{
+    let answer = answer_of(player, step)?;
+    Ok(Entry {
+        number: step.number,
+        text: step.text.clone()?,
+        answer,
+        pages: PageMap::new(player.guest.heap, &player.guest.map)?,
+    })
+}
+
+fn entries_of(heap: Global, player: &mut Player, steps: &[Step]) -> Result<Vec<Entry>, ReplayError>
     ensures { IfOk result (λ v. told v.items ≡ listed steps.now) }
 {
     let mut entries = Vec::new(heap);
     for step in steps {
-        entries.push(entry_of(heap, player, map, claims, step)?)?;
+        entries.push(entry_of(player, step)?)?;
     }
     Ok(entries)
 }
@@ -78,16 +74,23 @@ fn play_all(
     setup: Setup,
     root: VolatileSlice,
     steps: &[Step],
-) -> Result<(Vec<Entry>, Comparison), ReplayError>
+) -> Result<(Vec<Entry>, Option<Difference>), ReplayError>
     ensures { IfOk result (λ p. told p.0.items ≡ listed steps.now) }
 {
     let mut words = vec![in heap; 0u64; setup.pages.div_ceil(64)]?;
-    let mut map = AtomicBitmap::new(setup.byte_size, setup.page_size, words.as_mut_slice());
-    let mut player = Player::new(heap, root)?;
-    let mut claims = Vec::new(heap);
-    let entries = entries_of(heap, &mut player, &mut map, &mut claims, steps);
-    settle_all(claims, &mut map);
-    Ok((entries?, player.compare()))
+    let memory = vec![in heap; 0u8; root.len()]?;
+    let copy = vec![in heap; 0u8; root.len()]?;
+    let views = first_views(heap, root)?;
+    let map = AtomicBitmap::new(setup.byte_size, setup.page_size, words.as_mut_slice());
+    let mut player = Player {
+        guest: Guest { heap, memory, map },
+        copy,
+        views,
+        claims: Claims::new(heap),
+    };
+    let entries = entries_of(heap, &mut player, steps);
+    let difference = player.end();
+    Ok((entries?, difference))
 }
 
 /// Plays the script that bytes write.
@@ -96,17 +99,16 @@ pub fn replay(heap: Global, bytes: &[u8]) -> Result<Account, ReplayError>
 {
     let program = parse(heap, bytes)?;
     let setup = program.setup;
-    match VolatileSlice::new(setup.address, setup.byte_size) {
-        Ok(root) => {
-            let (entries, copy) = play_all(heap, setup, root, program.steps.as_slice())?;
-            Ok(Account {
-                setup,
-                entries,
-                copy,
-            })
-        }
-        Err(_) => Err(ReplayError::new(setup.line, Fault::PastTop)),
-    }
+    let root = VolatileSlice::new(setup.address, setup.byte_size).map_err(|_| ReplayError::Line(
+        setup.line,
+        Fault::PastTop,
+    ))?;
+    let (entries, difference) = play_all(heap, setup, root, program.steps.as_slice())?;
+    Ok(Account {
+        setup,
+        entries,
+        difference,
+    })
 }
 
 impl fmt::Display for Account {
@@ -119,8 +121,10 @@ impl fmt::Display for Account {
             "memory: {byte_size} bytes at {address}, pages of {page_size} bytes"
         )?;
         write_entries(f, self.entries.as_slice())?;
-        let copy = self.copy;
-        write!(f, "\ncopy: {copy}\n")
+        match self.difference {
+            None => f.write_str("\ncopy: equals the memory\n"),
+            Some(difference) => write!(f, "\ncopy: {difference}\n"),
+        }
     }
 }
 
@@ -135,9 +139,11 @@ impl fmt::Display for Entry {
     fn fmt<W: fmt::Write>(&self, f: &mut fmt::Formatter<W>) -> fmt::Result {
         let number = self.number;
         let text = &self.text;
-        let outcome = &self.outcome;
         let pages = &self.pages;
         write!(f, "line {number}: {text}\n")?;
-        write!(f, "{outcome}\n{pages}")
+        match &self.answer {
+            Ok(answer) => write!(f, "{answer}\n{pages}"),
+            Err(error) => write!(f, "refused: {error:?}\n{pages}"),
+        }
     }
 }

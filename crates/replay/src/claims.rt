@@ -1,91 +1,87 @@
 //! The claims that a script has open, by name.
-ghost use Rattle.std.specs.Prelude.{◌<◌, length, IfSome};
+ghost use Rattle.std.specs.Prelude.{◌<◌, IfOk, vec_len};
 
 use crate::fault::{Fault, unnamed};
-use crate::outcome::Outcome;
 use bitmap::AtomicBitmap;
-use std::alloc::{AllocError, AllocFailed as Refused, Global};
+use std::alloc::{AllocError, Global};
 use volatile_memory::{Claim, VolatileSlice};
 
 /// A claim that is open. It ends by being settled.
-pub(crate) struct OpenClaim {
+struct OpenClaim {
     name: String,
     claim: Claim,
 }
 
-/// Opens a claim on a view.
-pub(crate) fn open(
-    heap: Global,
-    claims: &mut Vec<OpenClaim>,
-    map: &mut AtomicBitmap,
-    name: &str,
-    view: &VolatileSlice,
-) -> Result<Outcome, Fault> {
-    let name = String::from_str(heap, name)?;
-    let claim = view.ptr_guard_mut();
-    match claims.push(OpenClaim { name, claim }) {
-        Ok(()) => Ok(Outcome::Size(view.len())),
-        Err(refused) => {
-            let Refused { value } = refused;
-            end(value, map);
-            Err(Fault::OutOfMemory(AllocError))
+/// The claims that are open, which end by being settled.
+pub(crate) struct Claims {
+    open: Vec<OpenClaim>,
+}
+
+impl Claims {
+    /// No claim.
+    pub(crate) fn new(heap: Global) -> Claims {
+        Claims {
+            open: Vec::new(heap),
         }
     }
-}
 
-/// Puts bytes through a claim.
-pub(crate) fn put(
-    heap: Global,
-    claims: &[OpenClaim],
-    memory: &mut [u8],
-    name: &str,
-    bytes: &[u8],
-    addr: usize,
-) -> Result<Outcome, Fault> {
-    let Some(at) = position(claims, name) else {
-        return Err(unnamed(heap, name));
-    };
-    match claims[at].claim.put(memory, bytes, addr) {
-        Ok(count) => Ok(Outcome::Size(count)),
-        Err(error) => Ok(Outcome::Refused(error)),
+    /// Opens a claim on a view.
+    pub(crate) fn open(
+        &mut self,
+        heap: Global,
+        name: &str,
+        view: &VolatileSlice,
+    ) -> Result<(), AllocError> {
+        let name = String::from_str(heap, name)?;
+        // With room for it, the claim is not lost for want of memory.
+        self.open.reserve(1)?;
+        let claim = view.ptr_guard_mut();
+        self.open.push(OpenClaim { name, claim }).unwrap();
+        Ok(())
     }
-}
 
-/// Settles a claim.
-pub(crate) fn settle(
-    heap: Global,
-    claims: &mut Vec<OpenClaim>,
-    map: &mut AtomicBitmap,
-    name: &str,
-) -> Result<Outcome, Fault> {
-    let Some(at) = position(claims.as_slice(), name) else {
-        return Err(unnamed(heap, name));
-    };
-    end(claims.swap_remove(at), map);
-    Ok(Outcome::Done)
-}
-
-/// Settles what is still open.
-pub(crate) fn settle_all(mut claims: Vec<OpenClaim>, map: &mut AtomicBitmap) {
-    while let Some(open) = claims.pop() {
-        end(open, map);
+    /// The claim of a name.
+    pub(crate) fn get(&self, heap: Global, name: &str) -> Result<&Claim, Fault> {
+        let at = self.position(heap, name)?;
+        Ok(&self.open[at].claim)
     }
-    claims.destroy_empty();
-}
 
-fn end(open: OpenClaim, map: &mut AtomicBitmap) {
-    let OpenClaim { name: _, claim } = open;
-    claim.settle(map);
-}
+    /// Settles the claim of a name.
+    pub(crate) fn settle(
+        &mut self,
+        heap: Global,
+        map: &mut AtomicBitmap,
+        name: &str,
+    ) -> Result<(), Fault> {
+        let at = self.position(heap, name)?;
+        self.open.swap_remove(at).settle(map);
+        Ok(())
+    }
 
-// Where the claim of a name stands.
-fn position(claims: &[OpenClaim], name: &str) -> Option<usize>
-    ensures { IfSome result (λ i. i < length claims.now) }
-{
-    for (at, open) in claims.iter().enumerate() {
-        if open.name.as_str() == name {
-            return Some(at);
+    /// Settles what is still open.
+    pub(crate) fn settle_all(self, map: &mut AtomicBitmap) {
+        let Claims { mut open } = self;
+        // A vector's iterator may be let go, and so takes no claims.
+        while let Some(claim) = open.pop() {
+            claim.settle(map);
         }
+        open.destroy_empty();
     }
-    None
+
+    // Where the claim of a name stands.
+    fn position(&self, heap: Global, name: &str) -> Result<usize, Fault>
+        ensures { IfOk result (λ i. i < vec_len self.now.open) }
+    {
+        self.open
+            .iter()
+            .position(|open| open.name.as_str() == name)
+            .ok_or_else(|| unnamed(heap, name))
+    }
+}
+
+impl OpenClaim {
+    fn settle(self, map: &mut AtomicBitmap) {
+        let OpenClaim { name: _, claim } = self;
+        claim.settle(map);
+    }
 }

@@ -1,41 +1,33 @@
 //! Whether the copy that a host keeps equals the memory.
 use std::fmt;
 
-/// In how many bytes a copy differs from a memory, and the place of the first.
+/// Where a copy differs from a memory: in how many bytes, and the place of the first.
 #[derive(Clone, Copy)]
-pub(crate) struct Comparison {
-    differing: usize,
+pub(crate) struct Difference {
+    bytes: usize,
     first: usize,
 }
 
-impl Comparison {
-    /// Compares a copy to a memory of its length.
-    pub(crate) fn new(memory: &[u8], copy: &[u8]) -> Comparison {
-        let mut differing = 0usize;
-        let mut first = 0;
-        for (place, (a, b)) in memory.iter().zip(copy.iter()).enumerate() {
-            if *a == *b {
-                continue;
-            }
-            if differing == 0 {
-                first = place;
-            }
-            differing = differing.saturating_add(1);
-        }
-        Comparison { differing, first }
+impl Difference {
+    /// How a copy differs from a memory of its length: absent where they are equal.
+    pub(crate) fn between(memory: &[u8], copy: &[u8]) -> Option<Difference> {
+        let first = memory.iter().zip(copy.iter()).position(|(a, b)| *a != *b)?;
+        let bytes = memory
+            .iter()
+            .zip(copy.iter())
+            .filter(|(a, b)| **a != **b)
+            .count();
+        Some(Difference { bytes, first })
     }
 }
 
-impl fmt::Display for Comparison {
+impl fmt::Display for Difference {
     fn fmt<W: fmt::Write>(&self, f: &mut fmt::Formatter<W>) -> fmt::Result {
-        let differing = self.differing;
+        let bytes = self.bytes;
         let first = self.first;
-        if differing == 0 {
-            return f.write_str("equals the memory");
-        }
         write!(
             f,
-            "differs from the memory in {differing} bytes, the first at {first}"
+            "differs from the memory in {bytes} bytes, the first at {first}"
         )
     }
 }

@@ -1,28 +1,37 @@
 //! Calls on elements of the kind that a script names.
-use crate::fault::Fault;
-use crate::outcome::Outcome;
+use crate::answer::Answer;
+use crate::fault::{Fault, Halt};
+use crate::guest::Guest;
 use crate::value::Element;
-use bitmap::AtomicBitmap;
-use byte_valued::LineHead;
+use byte_valued::{AtomicAccess, LineHead};
 use mirror::refresh;
 use parcel::Taken;
-use script::{ElementCall, Kind, Value};
-use std::alloc::Global;
+use script::{AtomicCall, ElementCall, IntegerKind, Kind, Value};
+use std::alloc::{AllocError, Global};
 use volatile_memory::{Error, VolatileArrayRef, VolatileSlice};
+
+// Calls a function of the integer type that a kind names.
+macro_rules! of_integer {
+    ($kind:expr, $f:ident($($arg:expr),*)) => {
+        match $kind {
+            IntegerKind::U8 => $f::<u8>($($arg),*),
+            IntegerKind::U16 => $f::<u16>($($arg),*),
+            IntegerKind::U32 => $f::<u32>($($arg),*),
+            IntegerKind::U64 => $f::<u64>($($arg),*),
+            IntegerKind::Usize => $f::<usize>($($arg),*),
+            IntegerKind::I8 => $f::<i8>($($arg),*),
+            IntegerKind::I16 => $f::<i16>($($arg),*),
+            IntegerKind::I32 => $f::<i32>($($arg),*),
+            IntegerKind::I64 => $f::<i64>($($arg),*),
+        }
+    };
+}
 
 // Calls a function of the type that a kind names.
 macro_rules! of_kind {
     ($kind:expr, $f:ident($($arg:expr),*)) => {
         match $kind {
-            Kind::U8 => $f::<u8>($($arg),*),
-            Kind::U16 => $f::<u16>($($arg),*),
-            Kind::U32 => $f::<u32>($($arg),*),
-            Kind::U64 => $f::<u64>($($arg),*),
-            Kind::Usize => $f::<usize>($($arg),*),
-            Kind::I8 => $f::<i8>($($arg),*),
-            Kind::I16 => $f::<i16>($($arg),*),
-            Kind::I32 => $f::<i32>($($arg),*),
-            Kind::I64 => $f::<i64>($($arg),*),
+            Kind::Integer(kind) => of_integer!(kind, $f($($arg),*)),
             Kind::LineHead => $f::<LineHead>($($arg),*),
         }
     };
@@ -81,248 +90,212 @@ fn array_of<T: Element>(view: &VolatileSlice) -> Result<VolatileArrayRef<T>, Err
     view.get_array_ref::<T>(0, count)
 }
 
-/// Calls on elements of a kind in a view, or in the reference or array that it was cut for.
-pub(crate) fn call_elements(
-    heap: Global,
-    kind: Kind,
-    view: &VolatileSlice,
-    memory: &mut [u8],
-    map: &mut AtomicBitmap,
-    call: &ElementCall,
-) -> Result<Outcome, Fault> {
-    of_kind!(kind, typed_call(heap, view, memory, map, call))
-}
-
-fn typed_call<T: Element>(
-    heap: Global,
-    view: &VolatileSlice,
-    memory: &mut [u8],
-    map: &mut AtomicBitmap,
-    call: &ElementCall,
-) -> Result<Outcome, Fault> {
-    match call {
-        ElementCall::WriteObj { addr, value } => write_obj::<T>(view, memory, map, *addr, *value),
-        ElementCall::ReadObj { addr } => Ok(one(view.read_obj::<T>(memory, *addr))),
-        ElementCall::CopyFrom(values) => copy_from::<T>(heap, view, memory, map, values.as_slice()),
-        ElementCall::CopyTo(n) => copy_to::<T>(heap, view, memory, *n),
-        ElementCall::Store(value) => store::<T>(view, memory, map, *value),
-        ElementCall::Load => Ok(load::<T>(view, memory)),
-        ElementCall::StoreAt { index, value } => {
-            store_at::<T>(view, memory, map, *index, *value)
-        }
-        ElementCall::LoadAt { index } => Ok(load_at::<T>(view, memory, *index)),
-        ElementCall::ArrayFrom(values) => {
-            array_from::<T>(heap, view, memory, map, values.as_slice())
-        }
-        ElementCall::ArrayTo(n) => array_to::<T>(heap, view, memory, *n),
-    }
-}
-
 // The element that a value stands for; a script's values fit.
 fn element<T: Element>(value: Value) -> Result<T, Fault> {
-    match T::of_value(value) {
-        Some(element) => Ok(element),
-        None => Err(Fault::NotFitting),
-    }
+    T::of_value(value).ok_or(Fault::NotFitting)
 }
 
 fn elements<T: Element>(heap: Global, values: &[Value]) -> Result<Vec<T>, Fault> {
-    let mut all = Vec::new(heap);
-    for value in values {
-        all.push(element::<T>(*value)?)?;
-    }
-    Ok(all)
+    let all: Result<Vec<T>, Fault> = values
+        .iter()
+        .map(|value| element::<T>(*value))
+        .collect(heap)?;
+    all
 }
 
 // A buffer of `n` elements.
-fn zeros<T: Element>(heap: Global, n: usize) -> Result<Vec<T>, Fault> {
-    let mut all = Vec::new(heap);
-    for _ in 0..n {
-        all.push(T::zeroed())?;
-    }
-    Ok(all)
+fn zeros<T: Element>(heap: Global, n: usize) -> Result<Vec<T>, AllocError> {
+    vec![in heap; T::zeroed(); n]
 }
 
 // The first elements of a buffer as values.
-fn values_of<T: Element>(heap: Global, buf: &[T], count: usize) -> Result<Vec<Value>, Fault> {
-    let mut values = Vec::new(heap);
-    for element in buf.iter().take(count) {
-        values.push(element.to_value())?;
-    }
-    Ok(values)
+fn values_of<T: Element>(heap: Global, buf: &[T], count: usize) -> Result<Vec<Value>, AllocError> {
+    buf.iter()
+        .take(count)
+        .map(|element| element.to_value())
+        .collect(heap)
 }
 
-// A call that answers nothing.
-pub(crate) fn done(res: Result<(), Error>) -> Outcome {
-    match res {
-        Ok(()) => Outcome::Done,
-        Err(error) => Outcome::Refused(error),
+/// Stores or loads an integer of a kind at an address of a view.
+pub(crate) fn call_atomic(
+    guest: &mut Guest,
+    kind: IntegerKind,
+    view: &VolatileSlice,
+    addr: usize,
+    call: AtomicCall,
+) -> Result<Answer, Halt> {
+    of_integer!(kind, typed_atomic(guest, view, addr, call))
+}
+
+fn typed_atomic<T: Element + AtomicAccess>(
+    guest: &mut Guest,
+    view: &VolatileSlice,
+    addr: usize,
+    call: AtomicCall,
+) -> Result<Answer, Halt> {
+    let memory = guest.memory.as_mut_slice();
+    match call {
+        AtomicCall::Store(n) => {
+            let element = element::<T>(Value::Number(n))?;
+            view.store(memory, &mut guest.map, element, addr)?;
+            Ok(Answer::Done)
+        }
+        AtomicCall::Load => {
+            let element = view.load::<T>(memory, addr)?;
+            Ok(Answer::One(element.to_value()))
+        }
     }
 }
 
-// A call that answers an element.
-pub(crate) fn one<T: Element>(res: Result<T, Error>) -> Outcome {
-    match res {
-        Ok(element) => Outcome::One(element.to_value()),
-        Err(error) => Outcome::Refused(error),
-    }
+/// Calls on elements of a kind in a view, or in the reference or array that it was cut for.
+pub(crate) fn call_elements(
+    guest: &mut Guest,
+    kind: Kind,
+    view: &VolatileSlice,
+    call: &ElementCall,
+) -> Result<Answer, Halt> {
+    of_kind!(kind, typed_call(guest, view, call))
 }
 
-// A call that fills the first elements of a buffer.
-fn many<T: Element>(heap: Global, buf: &[T], res: Result<usize, Error>) -> Result<Outcome, Fault> {
-    match res {
-        Ok(count) => Ok(Outcome::Many(values_of(heap, buf, count)?)),
-        Err(error) => Ok(Outcome::Refused(error)),
+fn typed_call<T: Element>(
+    guest: &mut Guest,
+    view: &VolatileSlice,
+    call: &ElementCall,
+) -> Result<Answer, Halt> {
+    match call {
+        ElementCall::WriteObj { addr, value } => write_obj::<T>(guest, view, *addr, *value),
+        ElementCall::ReadObj { addr } => read_obj::<T>(guest, view, *addr),
+        ElementCall::CopyFrom(values) => copy_from::<T>(guest, view, values.as_slice()),
+        ElementCall::CopyTo(n) => copy_to::<T>(guest, view, *n),
+        ElementCall::Store(value) => store::<T>(guest, view, *value),
+        ElementCall::Load => load::<T>(guest, view),
+        ElementCall::StoreAt { index, value } => store_at::<T>(guest, view, *index, *value),
+        ElementCall::LoadAt { index } => load_at::<T>(guest, view, *index),
+        ElementCall::ArrayFrom(values) => array_from::<T>(guest, view, values.as_slice()),
+        ElementCall::ArrayTo(n) => array_to::<T>(guest, view, *n),
     }
 }
 
 fn write_obj<T: Element>(
+    guest: &mut Guest,
     view: &VolatileSlice,
-    memory: &mut [u8],
-    map: &mut AtomicBitmap,
     addr: usize,
     value: Value,
-) -> Result<Outcome, Fault> {
+) -> Result<Answer, Halt> {
     let element = element::<T>(value)?;
-    Ok(done(view.write_obj(memory, map, element, addr)))
+    view.write_obj(guest.memory.as_mut_slice(), &mut guest.map, element, addr)?;
+    Ok(Answer::Done)
+}
+
+fn read_obj<T: Element>(guest: &Guest, view: &VolatileSlice, addr: usize) -> Result<Answer, Halt> {
+    let element = view.read_obj::<T>(guest.memory.as_slice(), addr)?;
+    Ok(Answer::One(element.to_value()))
 }
 
 fn copy_from<T: Element>(
-    heap: Global,
+    guest: &mut Guest,
     view: &VolatileSlice,
-    memory: &mut [u8],
-    map: &mut AtomicBitmap,
     values: &[Value],
-) -> Result<Outcome, Fault> {
-    let buf = elements::<T>(heap, values)?;
-    Ok(done(view.copy_from(memory, map, buf.as_slice())))
+) -> Result<Answer, Halt> {
+    let buf = elements::<T>(guest.heap, values)?;
+    view.copy_from(guest.memory.as_mut_slice(), &mut guest.map, buf.as_slice())?;
+    Ok(Answer::Done)
 }
 
-fn copy_to<T: Element>(
-    heap: Global,
-    view: &VolatileSlice,
-    memory: &[u8],
-    n: usize,
-) -> Result<Outcome, Fault> {
-    let mut buf = zeros::<T>(heap, n)?;
-    let result = view.copy_to(memory, buf.as_mut_slice());
-    many(heap, buf.as_slice(), result)
+fn copy_to<T: Element>(guest: &Guest, view: &VolatileSlice, n: usize) -> Result<Answer, Halt> {
+    let mut buf = zeros::<T>(guest.heap, n)?;
+    let count = view.copy_to(guest.memory.as_slice(), buf.as_mut_slice())?;
+    Ok(Answer::Many(values_of(guest.heap, buf.as_slice(), count)?))
 }
 
 fn store<T: Element>(
+    guest: &mut Guest,
     view: &VolatileSlice,
-    memory: &mut [u8],
-    map: &mut AtomicBitmap,
     value: Value,
-) -> Result<Outcome, Fault> {
+) -> Result<Answer, Halt> {
     let element = element::<T>(value)?;
-    match view.get_ref::<T>(0) {
-        Ok(reference) => Ok(done(reference.store(memory, map, element))),
-        Err(error) => Ok(Outcome::Refused(error)),
-    }
+    let reference = view.get_ref::<T>(0)?;
+    reference.store(guest.memory.as_mut_slice(), &mut guest.map, element)?;
+    Ok(Answer::Done)
 }
 
-fn load<T: Element>(view: &VolatileSlice, memory: &[u8]) -> Outcome {
-    match view.get_ref::<T>(0) {
-        Ok(reference) => one(reference.load(memory)),
-        Err(error) => Outcome::Refused(error),
-    }
+fn load<T: Element>(guest: &Guest, view: &VolatileSlice) -> Result<Answer, Halt> {
+    let element = view.get_ref::<T>(0)?.load(guest.memory.as_slice())?;
+    Ok(Answer::One(element.to_value()))
 }
 
 fn store_at<T: Element>(
+    guest: &mut Guest,
     view: &VolatileSlice,
-    memory: &mut [u8],
-    map: &mut AtomicBitmap,
     index: usize,
     value: Value,
-) -> Result<Outcome, Fault> {
+) -> Result<Answer, Halt> {
     let element = element::<T>(value)?;
-    match array_of::<T>(view) {
-        Ok(array) => Ok(done(array.store(memory, map, index, element))),
-        Err(error) => Ok(Outcome::Refused(error)),
-    }
+    let array = array_of::<T>(view)?;
+    array.store(guest.memory.as_mut_slice(), &mut guest.map, index, element)?;
+    Ok(Answer::Done)
 }
 
-fn load_at<T: Element>(view: &VolatileSlice, memory: &[u8], index: usize) -> Outcome {
-    match array_of::<T>(view) {
-        Ok(array) => one(array.load(memory, index)),
-        Err(error) => Outcome::Refused(error),
-    }
+fn load_at<T: Element>(guest: &Guest, view: &VolatileSlice, index: usize) -> Result<Answer, Halt> {
+    let element = array_of::<T>(view)?.load(guest.memory.as_slice(), index)?;
+    Ok(Answer::One(element.to_value()))
 }
 
 fn array_from<T: Element>(
-    heap: Global,
+    guest: &mut Guest,
     view: &VolatileSlice,
-    memory: &mut [u8],
-    map: &mut AtomicBitmap,
     values: &[Value],
-) -> Result<Outcome, Fault> {
-    let buf = elements::<T>(heap, values)?;
-    match array_of::<T>(view) {
-        Ok(array) => Ok(done(array.copy_from(memory, map, buf.as_slice()))),
-        Err(error) => Ok(Outcome::Refused(error)),
-    }
+) -> Result<Answer, Halt> {
+    let buf = elements::<T>(guest.heap, values)?;
+    let array = array_of::<T>(view)?;
+    array.copy_from(guest.memory.as_mut_slice(), &mut guest.map, buf.as_slice())?;
+    Ok(Answer::Done)
 }
 
-fn array_to<T: Element>(
-    heap: Global,
-    view: &VolatileSlice,
-    memory: &[u8],
-    n: usize,
-) -> Result<Outcome, Fault> {
-    let mut buf = zeros::<T>(heap, n)?;
-    match array_of::<T>(view) {
-        Ok(array) => {
-            let result = array.copy_to(memory, buf.as_mut_slice());
-            many(heap, buf.as_slice(), result)
-        }
-        Err(error) => Ok(Outcome::Refused(error)),
-    }
+fn array_to<T: Element>(guest: &Guest, view: &VolatileSlice, n: usize) -> Result<Answer, Halt> {
+    let mut buf = zeros::<T>(guest.heap, n)?;
+    let count = array_of::<T>(view)?.copy_to(guest.memory.as_slice(), buf.as_mut_slice())?;
+    Ok(Answer::Many(values_of(guest.heap, buf.as_slice(), count)?))
 }
 
 /// Copies the bytes of an array to a view of the same memory.
 pub(crate) fn copy_array(
+    guest: &mut Guest,
     kind: Kind,
     from: &VolatileSlice,
-    memory: &mut [u8],
     to: &VolatileSlice,
-    map: &mut AtomicBitmap,
-) -> Outcome {
-    of_kind!(kind, typed_copy(from, memory, to, map))
+) -> Result<(), Error> {
+    of_kind!(kind, typed_copy(guest, from, to))
 }
 
 fn typed_copy<T: Element>(
+    guest: &mut Guest,
     from: &VolatileSlice,
-    memory: &mut [u8],
     to: &VolatileSlice,
-    map: &mut AtomicBitmap,
-) -> Outcome {
-    match array_of::<T>(from) {
-        Ok(array) => done(array.copy_to_volatile_slice(memory, to, map)),
-        Err(error) => Outcome::Refused(error),
-    }
+) -> Result<(), Error> {
+    let array = array_of::<T>(from)?;
+    array.copy_to_volatile_slice(guest.memory.as_mut_slice(), to, &mut guest.map)
 }
 
-/// Takes a parcel, applies it to the copy, and loads an element there: that of the reference which the view was cut for.
+/// Takes a parcel, applies it to a copy, and loads an element there: that of the reference which the view was cut for.
 pub(crate) fn refresh_element(
+    guest: &mut Guest,
     kind: Kind,
     view: &VolatileSlice,
-    memory: &[u8],
-    map: &mut AtomicBitmap,
-    buf: &mut [u8],
+    parcel: &mut [u8],
     copy: &mut [u8],
 ) -> Result<(Taken, Value), Error> {
-    of_kind!(kind, typed_refresh(view, memory, map, buf, copy))
+    of_kind!(kind, typed_refresh(guest, view, parcel, copy))
 }
 
 fn typed_refresh<T: Element>(
+    guest: &mut Guest,
     view: &VolatileSlice,
-    memory: &[u8],
-    map: &mut AtomicBitmap,
-    buf: &mut [u8],
+    parcel: &mut [u8],
     copy: &mut [u8],
 ) -> Result<(Taken, Value), Error> {
     let reference = view.get_ref::<T>(0)?;
-    let refreshed = refresh::<_, T>(memory, map, buf, copy, &reference)?;
+    let memory = guest.memory.as_slice();
+    let refreshed = refresh::<_, T>(memory, &mut guest.map, parcel, copy, &reference)?;
     Ok((refreshed.taken, refreshed.element.to_value()))
 }

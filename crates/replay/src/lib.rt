@@ -2,15 +2,14 @@
 #![tactic(auto)]
 
 mod account;
-mod atomics;
+mod answer;
 mod claims;
 mod comparison;
 mod elements;
 mod fault;
-mod outcome;
+mod guest;
 mod player;
-mod taking;
 mod value;
 
 pub use account::{Account, replay};
-pub use fault::ReplayError;
+pub use fault::{Fault, ReplayError};

@@ -1,54 +1,30 @@
 //! Values of elements, as a script writes them.
+ghost use Rattle.std.specs.Prelude.{◌≡◌, IfSome, pos};
+ghost use Rattle.script.specs.declared.command.Value.{Value};
+ghost use Rattle.script.specs.declared.command.Value.TheVariants.{Number, Head};
+
 use byte_valued::{ByteValued, LineHead};
 use script::Value;
-use std::fmt;
-
-// The number that a value is.
-fn number(value: Value) -> Option<i128> {
-    match value {
-        Value::Number(n) => Some(n),
-        Value::Head(_) => None,
-    }
-}
-
-/// A value to print.
-#[derive(Clone, Copy)]
-pub(crate) struct Shown(pub(crate) Value);
-
-impl fmt::Display for Shown {
-    fn fmt<W: fmt::Write>(&self, f: &mut fmt::Formatter<W>) -> fmt::Result {
-        match self.0 {
-            Value::Number(n) => write!(f, "{n}"),
-            Value::Head(head) => write_head(f, head),
-        }
-    }
-}
-
-fn write_head<W: fmt::Write>(f: &mut fmt::Formatter<W>, head: LineHead) -> fmt::Result {
-    let register = head.register;
-    write!(f, "{register}")?;
-    write_part(f, head.leaf)?;
-    write_part(f, head.line)?;
-    write_part(f, head.left)?;
-    write_part(f, head.width)
-}
-
-fn write_part<W: fmt::Write>(f: &mut fmt::Formatter<W>, part: u16) -> fmt::Result {
-    write!(f, " {part}")
-}
 
 /// A kind of element that a script's values can be of.
 pub(crate) trait Element: ByteValued {
-    /// The element that a value stands for, if it fits.
-    fn of_value(value: Value) -> Option<Self>;
+    // The value that an element is.
+    ghost value_of: { Self → Value };
+
+    /// The element that a value is, if it fits.
+    fn of_value(value: Value) -> Option<Self>
+        ensures { IfSome result (λ element. value_of element ≡ value) };
 
     /// The element as a value.
-    fn to_value(self) -> Value;
+    fn to_value(self) -> Value
+        ensures { result ≡ value_of self };
 }
 
 impl Element for u8 {
+    ghost value_of = { λ n. Number (pos n) };
+
     fn of_value(value: Value) -> Option<u8> {
-        u8::try_from(number(value)?).ok()
+        u8::try_from(value.number()?).ok()
     }
 
     fn to_value(self) -> Value {
@@ -57,8 +33,10 @@ impl Element for u8 {
 }
 
 impl Element for u16 {
+    ghost value_of = { λ n. Number (pos n) };
+
     fn of_value(value: Value) -> Option<u16> {
-        u16::try_from(number(value)?).ok()
+        u16::try_from(value.number()?).ok()
     }
 
     fn to_value(self) -> Value {
@@ -67,8 +45,10 @@ impl Element for u16 {
 }
 
 impl Element for u32 {
+    ghost value_of = { λ n. Number (pos n) };
+
     fn of_value(value: Value) -> Option<u32> {
-        u32::try_from(number(value)?).ok()
+        u32::try_from(value.number()?).ok()
     }
 
     fn to_value(self) -> Value {
@@ -77,8 +57,10 @@ impl Element for u32 {
 }
 
 impl Element for u64 {
+    ghost value_of = { λ n. Number (pos n) };
+
     fn of_value(value: Value) -> Option<u64> {
-        u64::try_from(number(value)?).ok()
+        u64::try_from(value.number()?).ok()
     }
 
     fn to_value(self) -> Value {
@@ -87,8 +69,10 @@ impl Element for u64 {
 }
 
 impl Element for usize {
+    ghost value_of = { λ n. Number (pos n) };
+
     fn of_value(value: Value) -> Option<usize> {
-        usize::try_from(number(value)?).ok()
+        usize::try_from(value.number()?).ok()
     }
 
     fn to_value(self) -> Value {
@@ -97,8 +81,10 @@ impl Element for usize {
 }
 
 impl Element for i8 {
+    ghost value_of = { λ n. Number n };
+
     fn of_value(value: Value) -> Option<i8> {
-        i8::try_from(number(value)?).ok()
+        i8::try_from(value.number()?).ok()
     }
 
     fn to_value(self) -> Value {
@@ -107,8 +93,10 @@ impl Element for i8 {
 }
 
 impl Element for i16 {
+    ghost value_of = { λ n. Number n };
+
     fn of_value(value: Value) -> Option<i16> {
-        i16::try_from(number(value)?).ok()
+        i16::try_from(value.number()?).ok()
     }
 
     fn to_value(self) -> Value {
@@ -117,8 +105,10 @@ impl Element for i16 {
 }
 
 impl Element for i32 {
+    ghost value_of = { λ n. Number n };
+
     fn of_value(value: Value) -> Option<i32> {
-        i32::try_from(number(value)?).ok()
+        i32::try_from(value.number()?).ok()
     }
 
     fn to_value(self) -> Value {
@@ -127,8 +117,10 @@ impl Element for i32 {
 }
 
 impl Element for i64 {
+    ghost value_of = { λ n. Number n };
+
     fn of_value(value: Value) -> Option<i64> {
-        i64::try_from(number(value)?).ok()
+        i64::try_from(value.number()?).ok()
     }
 
     fn to_value(self) -> Value {
@@ -137,11 +129,10 @@ impl Element for i64 {
 }
 
 impl Element for LineHead {
+    ghost value_of = { Head };
+
     fn of_value(value: Value) -> Option<LineHead> {
-        match value {
-            Value::Number(_) => None,
-            Value::Head(head) => Some(head),
-        }
+        value.head()
     }
 
     fn to_value(self) -> Value {

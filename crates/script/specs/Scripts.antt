@@ -1,5 +1,5 @@
 -- The script that bytes write, line by line. Assumes nothing.
-use Rattle.std.specs.Prelude.{◌≡◌, ℕ, ◌≤◌, List, [], ◌∷◌, vec_items, string_bytes}
+use Rattle.std.specs.Prelude.{◌≡◌, ℕ, ◌≤◌, List, ◌∷◌, map, vec_items, string_bytes}
 use Rattle.bitmap.specs.Pages.{ceiling}
 use Rattle.text.specs.Said.{Says}
 use Rattle.script.specs.declared.command.Program.{Program}
@@ -8,8 +8,7 @@ use Rattle.script.specs.declared.command.Step.{Step}
 
 -- the lines of steps, by number and text
 abbrev pub listed : List Step → List (ℕ × List ℕ)
-listed [] = []
-listed (s ∷ ss) = (s.number, string_bytes s.text) ∷ listed ss
+listed ss = map (λ s. (s.number, string_bytes s.text)) ss
 
 -- no more bytes and pages than are held, and as many pages as the bytes take
 pub record Small (s : Setup) : Type 0 where

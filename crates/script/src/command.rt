@@ -1,7 +1,11 @@
 //! What the lines of a script ask for.
-use crate::kind::Kind;
+ghost use Rattle.std.specs.Prelude.{◌≡◌};
+ghost use Rattle.script.specs.Values.{number_of, head_of};
+
+use crate::kind::{IntegerKind, Kind};
 use bitmap::PageSize;
 use byte_valued::LineHead;
+use std::fmt;
 
 /// A value of some kind of element.
 #[derive(Clone, Copy)]
@@ -10,13 +14,44 @@ pub enum Value {
     Head(LineHead),
 }
 
-/// What a name stands for.
-#[derive(Clone, Copy)]
-pub(crate) enum Shape {
-    View,
-    Reference(Kind),
-    Array(Kind),
-    Claim,
+impl Value {
+    /// The number that it is: absent of a line head.
+    pub fn number(self) -> Option<i128>
+        ensures { result ≡ number_of self }
+    {
+        match self {
+            Value::Number(n) => Some(n),
+            Value::Head(_) => None,
+        }
+    }
+
+    /// The line head that it is: absent of a number.
+    pub fn head(self) -> Option<LineHead>
+        ensures { result ≡ head_of self }
+    {
+        match self {
+            Value::Number(_) => None,
+            Value::Head(head) => Some(head),
+        }
+    }
+}
+
+impl fmt::Display for Value {
+    fn fmt<W: fmt::Write>(&self, f: &mut fmt::Formatter<W>) -> fmt::Result {
+        match self {
+            Value::Number(n) => write!(f, "{n}"),
+            Value::Head(head) => {
+                let LineHead {
+                    register,
+                    leaf,
+                    line,
+                    left,
+                    width,
+                } = *head;
+                write!(f, "{register} {leaf} {line} {left} {width}")
+            }
+        }
+    }
 }
 
 /// What is asked for, of what a name stands for.
@@ -40,8 +75,9 @@ pub enum Command {
         addr: usize,
         call: ByteCall,
     },
-    /// An integer stored or, where there is no value, loaded atomically.
+    /// An integer of a kind stored or loaded atomically.
     Atomic {
+        kind: IntegerKind,
         view: String,
         addr: usize,
         call: AtomicCall,
@@ -89,11 +125,11 @@ pub enum ByteCall {
     ReadSlice(usize),
 }
 
-/// A call that stores an integer of a kind or, where there is no value, loads one.
+/// A call that stores or loads an integer.
 #[derive(Clone, Copy)]
-pub struct AtomicCall {
-    pub kind: Kind,
-    pub value: Option<Value>,
+pub enum AtomicCall {
+    Store(i128),
+    Load,
 }
 
 /// A call on a claim.

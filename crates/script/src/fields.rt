@@ -1,10 +1,10 @@
 //! The fields of a script's lines.
-ghost use Rattle.std.specs.Prelude.{◌<◌, IfSome, IfOk};
+ghost use Rattle.std.specs.Prelude.{IfOk};
 ghost use Rattle.text.specs.Numerals.{Writes};
 
 use crate::command::Value;
 use crate::fault::{Complaint, Fault, MOST_READ, faulty};
-use crate::kind::Kind;
+use crate::kind::{IntegerKind, Kind};
 use crate::word::Word;
 use byte_valued::LineHead;
 use std::alloc::Global;
@@ -14,10 +14,7 @@ use text::number;
 pub(crate) fn number_of(heap: Global, field: &str) -> Result<usize, Fault>
     ensures { IfOk result (λ n. Writes field.now n) }
 {
-    match number(field) {
-        Ok(n) => Ok(n),
-        Err(error) => Err(faulty(heap, Complaint::NotNumber(error), field)),
-    }
+    number(field).map_err(|error| faulty(heap, Complaint::NotNumber(error), field))
 }
 
 /// How many bytes or elements a call is to read.
@@ -29,12 +26,18 @@ pub(crate) fn length_of(heap: Global, field: &str) -> Result<usize, Fault> {
     Ok(n)
 }
 
+/// The word that a field is.
+pub(crate) fn word_of(heap: Global, field: &str) -> Result<Word, Fault> {
+    field
+        .parse::<Word>()
+        .map_err(|complaint| faulty(heap, complaint, field))
+}
+
 /// The kind that a field names.
 pub(crate) fn kind_of(heap: Global, field: &str) -> Result<Kind, Fault> {
-    match Kind::of(field) {
-        Some(kind) => Ok(kind),
-        None => Err(faulty(heap, Complaint::UnknownKind, field)),
-    }
+    field
+        .parse::<Kind>()
+        .map_err(|complaint| faulty(heap, complaint, field))
 }
 
 // A number with or without a sign.
@@ -45,18 +48,12 @@ fn integer_of(heap: Global, field: &str) -> Result<i128, Fault> {
     }
 }
 
-fn half_of(heap: Global, field: &str) -> Result<u16, Fault> {
-    match u16::try_from(number_of(heap, field)?) {
-        Ok(n) => Ok(n),
-        Err(_) => Err(faulty(heap, Complaint::NotFitting, field)),
-    }
-}
-
-fn word_of(heap: Global, field: &str) -> Result<u32, Fault> {
-    match u32::try_from(number_of(heap, field)?) {
-        Ok(n) => Ok(n),
-        Err(_) => Err(faulty(heap, Complaint::NotFitting, field)),
-    }
+// A part of a line head, which has fewer bits than a number.
+fn part_of<T: TryFrom<usize>>(heap: Global, field: &str) -> Result<T, Fault>
+where
+    T::Error: Drop,
+{
+    T::try_from(number_of(heap, field)?).map_err(|_| faulty(heap, Complaint::NotFitting, field))
 }
 
 fn head_of(heap: Global, word: Word, fields: &[&str]) -> Result<LineHead, Fault> {
@@ -64,12 +61,29 @@ fn head_of(heap: Global, word: Word, fields: &[&str]) -> Result<LineHead, Fault>
         return Err(Fault::Form(word));
     };
     Ok(LineHead {
-        register: word_of(heap, register)?,
-        leaf: half_of(heap, leaf)?,
-        line: half_of(heap, line)?,
-        left: half_of(heap, left)?,
-        width: half_of(heap, width)?,
+        register: part_of(heap, register)?,
+        leaf: part_of(heap, leaf)?,
+        line: part_of(heap, line)?,
+        left: part_of(heap, left)?,
+        width: part_of(heap, width)?,
     })
+}
+
+/// The number of a kind that fields write.
+pub(crate) fn fitting_of(
+    heap: Global,
+    word: Word,
+    kind: IntegerKind,
+    fields: &[&str],
+) -> Result<i128, Fault> {
+    let [field] = fields else {
+        return Err(Fault::Form(word));
+    };
+    let n = integer_of(heap, field)?;
+    if !kind.holds(n) {
+        return Err(faulty(heap, Complaint::NotFitting, field));
+    }
+    Ok(n)
 }
 
 /// The value of a kind that fields write.
@@ -79,17 +93,10 @@ pub(crate) fn value_of(
     kind: Kind,
     fields: &[&str],
 ) -> Result<Value, Fault> {
-    if let Kind::LineHead = kind {
-        return Ok(Value::Head(head_of(heap, word, fields)?));
-    }
-    let [field] = fields else {
-        return Err(Fault::Form(word));
-    };
-    let n = integer_of(heap, field)?;
-    if !kind.holds(n) {
-        return Err(faulty(heap, Complaint::NotFitting, field));
-    }
-    Ok(Value::Number(n))
+    Ok(match kind {
+        Kind::Integer(kind) => Value::Number(fitting_of(heap, word, kind, fields)?),
+        Kind::LineHead => Value::Head(head_of(heap, word, fields)?),
+    })
 }
 
 /// The values of a kind that fields write, one after the other.
@@ -99,11 +106,11 @@ pub(crate) fn values_of(
     kind: Kind,
     fields: &[&str],
 ) -> Result<Vec<Value>, Fault> {
-    let mut values = Vec::new(heap);
-    for part in fields.chunks(kind.fields()) {
-        values.push(value_of(heap, word, kind, part)?)?;
-    }
-    Ok(values)
+    let values: Result<Vec<Value>, Fault> = fields
+        .chunks(kind.fields())
+        .map(|part| value_of(heap, word, kind, part))
+        .collect(heap)?;
+    values
 }
 
 /// The bytes that a field writes: pairs of hexadecimal digits after `0x`, and else its own text.
@@ -111,31 +118,11 @@ pub(crate) fn bytes_of(heap: Global, field: &str) -> Result<Vec<u8>, Fault> {
     let Some(digits) = field.strip_prefix("0x") else {
         return Ok(field.as_bytes().to_vec(heap)?);
     };
-    let mut bytes = Vec::new(heap);
-    for pair in digits.as_bytes().chunks(2) {
-        match byte_of(pair) {
-            Some(byte) => bytes.push(byte)?,
-            None => return Err(faulty(heap, Complaint::NotBytes, field)),
-        }
-    }
+    let mut bytes = vec![in heap; 0u8; digits.len() / 2]?;
+    hex::decode_to_slice(digits, bytes.as_mut_slice()).map_err(|_| faulty(
+        heap,
+        Complaint::NotBytes,
+        field,
+    ))?;
     Ok(bytes)
-}
-
-// The byte that two digits write.
-fn byte_of(pair: &[u8]) -> Option<u8> {
-    let [high, low] = pair else {
-        return None;
-    };
-    Some(digit_of(*high)? * 16 + digit_of(*low)?)
-}
-
-fn digit_of(b: u8) -> Option<u8>
-    ensures { IfSome result (λ d. d < 16) }
-{
-    match b {
-        b'0'..=b'9' => Some(b - b'0'),
-        b'a'..=b'f' => Some(b - b'a' + 10),
-        b'A'..=b'F' => Some(b - b'A' + 10),
-        _ => None,
-    }
 }

@@ -1,9 +1,12 @@
 //! The kinds of element that a script names.
 ghost use Rattle.std.specs.Prelude.{◌<◌};
 
-/// A kind of element.
+use crate::fault::Complaint;
+use std::str::FromStr;
+
+/// A kind of integer.
 #[derive(Clone, Copy)]
-pub enum Kind {
+pub enum IntegerKind {
     U8,
     U16,
     U32,
@@ -13,61 +16,28 @@ pub enum Kind {
     I16,
     I32,
     I64,
+}
+
+/// A kind of element.
+#[derive(Clone, Copy)]
+pub enum Kind {
+    Integer(IntegerKind),
     LineHead,
 }
 
-const KINDS: [Kind; 10] = [
-    Kind::U8,
-    Kind::U16,
-    Kind::U32,
-    Kind::U64,
-    Kind::Usize,
-    Kind::I8,
-    Kind::I16,
-    Kind::I32,
-    Kind::I64,
-    Kind::LineHead,
-];
-
-impl Kind {
-    // The kind of a name.
-    pub(crate) fn of(name: &str) -> Option<Kind> {
-        for kind in KINDS.iter() {
-            if kind.name() == name {
-                return Some(*kind);
-            }
-        }
-        None
-    }
-
-    pub(crate) fn name(self) -> &'static str {
-        match self {
-            Kind::U8 => "u8",
-            Kind::U16 => "u16",
-            Kind::U32 => "u32",
-            Kind::U64 => "u64",
-            Kind::Usize => "usize",
-            Kind::I8 => "i8",
-            Kind::I16 => "i16",
-            Kind::I32 => "i32",
-            Kind::I64 => "i64",
-            Kind::LineHead => "LineHead",
-        }
-    }
-
-    // The least and the largest number that it holds; a line head is no number.
+impl IntegerKind {
+    // The least and the largest number that it holds.
     fn bounds(self) -> (i128, i128) {
         match self {
-            Kind::U8 => (0, u8::MAX as i128),
-            Kind::U16 => (0, u16::MAX as i128),
-            Kind::U32 => (0, u32::MAX as i128),
-            Kind::U64 => (0, u64::MAX as i128),
-            Kind::Usize => (0, usize::MAX as i128),
-            Kind::I8 => (i8::MIN as i128, i8::MAX as i128),
-            Kind::I16 => (i16::MIN as i128, i16::MAX as i128),
-            Kind::I32 => (i32::MIN as i128, i32::MAX as i128),
-            Kind::I64 => (i64::MIN as i128, i64::MAX as i128),
-            Kind::LineHead => (1, 0),
+            IntegerKind::U8 => (0, u8::MAX as i128),
+            IntegerKind::U16 => (0, u16::MAX as i128),
+            IntegerKind::U32 => (0, u32::MAX as i128),
+            IntegerKind::U64 => (0, u64::MAX as i128),
+            IntegerKind::Usize => (0, usize::MAX as i128),
+            IntegerKind::I8 => (i8::MIN as i128, i8::MAX as i128),
+            IntegerKind::I16 => (i16::MIN as i128, i16::MAX as i128),
+            IntegerKind::I32 => (i32::MIN as i128, i32::MAX as i128),
+            IntegerKind::I64 => (i64::MIN as i128, i64::MAX as i128),
         }
     }
 
@@ -76,15 +46,37 @@ impl Kind {
         let (least, largest) = self.bounds();
         least <= n && n <= largest
     }
+}
 
-    pub(crate) fn is_head(self) -> bool {
-        matches!(self, Kind::LineHead)
-    }
-
+impl Kind {
     // How many fields write a value: a line head is written by its five numbers.
     pub(crate) fn fields(self) -> usize
         ensures { 0 < result }
     {
-        if self.is_head() { 5 } else { 1 }
+        match self {
+            Kind::Integer(_) => 1,
+            Kind::LineHead => 5,
+        }
+    }
+}
+
+// The kind of a name.
+impl FromStr for Kind {
+    type Err = Complaint;
+
+    fn from_str(name: &str) -> Result<Kind, Complaint> {
+        Ok(Kind::Integer(match name {
+            "u8" => IntegerKind::U8,
+            "u16" => IntegerKind::U16,
+            "u32" => IntegerKind::U32,
+            "u64" => IntegerKind::U64,
+            "usize" => IntegerKind::Usize,
+            "i8" => IntegerKind::I8,
+            "i16" => IntegerKind::I16,
+            "i32" => IntegerKind::I32,
+            "i64" => IntegerKind::I64,
+            "LineHead" => return Ok(Kind::LineHead),
+            _ => return Err(Complaint::UnknownKind),
+        }))
     }
 }

@@ -5,13 +5,13 @@ ghost use Rattle.text.specs.Said.{numbered};
 ghost use Rattle.script.specs.Scripts.{listed, Small, Scripts};
 
 use crate::command::{ClaimCall, Command, Program, Setup, Step};
-use crate::commands::{Shapes, command_of, first_shapes, is_claim};
-use crate::fault::{Fault, MOST_BYTES, MOST_PAGES, ScriptError};
+use crate::fault::{Fault, MOST_BYTES, ScriptError};
 use crate::fields::number_of;
+use crate::names::Names;
 use crate::word::Word;
 use bitmap::PageSize;
 use std::alloc::Global;
-use text::{Line, decode, lines};
+use text::{Line, MOST_PAGES, decode, lines};
 
 fn new_setup(
     line: usize,
@@ -21,13 +21,11 @@ fn new_setup(
 ) -> Result<Setup, Fault>
     ensures { IfOk result Small }
 {
-    let Some(page_size) = PageSize::new(page_size) else {
-        return Err(Fault::NoPageSize);
-    };
+    let page_size = PageSize::new(page_size).ok_or(Fault::NoPageSize)?;
     if byte_size > MOST_BYTES {
         return Err(Fault::TooManyBytes(byte_size));
     }
-    let pages = count(byte_size, page_size.get());
+    let pages = page_size.pages(byte_size);
     if pages > MOST_PAGES {
         return Err(Fault::TooManyPages(pages));
     }
@@ -38,14 +36,6 @@ fn new_setup(
         page_size,
         pages,
     })
-}
-
-// How many pages a number of bytes takes.
-fn count(byte_size: usize, page_size: usize) -> usize
-    requires { 0 < page_size }
-    ensures { result ≡ ceiling byte_size page_size }
-{
-    byte_size.div_ceil(page_size)
 }
 
 fn setup_of(heap: Global, line: &Line) -> Result<Setup, Fault>
@@ -68,22 +58,23 @@ fn setup_of(heap: Global, line: &Line) -> Result<Setup, Fault>
 }
 
 // The command of a line.
-fn command_in(heap: Global, shapes: &mut Shapes, text: &str) -> Result<Command, Fault> {
-    let fields: Vec<&str> = text.split_whitespace().collect(heap)?;
-    command_of(heap, shapes, fields.as_slice())
+fn command_in(names: &mut Names, text: &str) -> Result<Command, Fault> {
+    let fields: Vec<&str> = text.split_whitespace().collect(names.heap)?;
+    names.command(fields.as_slice())
 }
 
-fn step_of(heap: Global, shapes: &mut Shapes, line: &Line) -> Result<Step, ScriptError>
+fn step_of(names: &mut Names, line: &Line) -> Result<Step, ScriptError>
     ensures { IfOk result (λ s. (s.number ≡ line.now.number) × (string_bytes s.text ≡ line.now.text.now)) }
 {
-    match command_in(heap, shapes, line.text) {
-        Ok(command) => Ok(Step {
-            number: line.number,
-            text: String::from_str(heap, line.text)?,
-            command,
-        }),
-        Err(fault) => Err(ScriptError::new(line.number, fault)),
-    }
+    let command = command_in(names, line.text).map_err(|fault| ScriptError::Line(
+        line.number,
+        fault,
+    ))?;
+    Ok(Step {
+        number: line.number,
+        text: String::from_str(names.heap, line.text)?,
+        command,
+    })
 }
 
 // The name that a step gives to a claim.
@@ -98,14 +89,14 @@ fn claimed(step: &Step) -> Option<&str> {
 }
 
 // After all steps no claim is open.
-fn check_settled(heap: Global, shapes: &Shapes, steps: &[Step]) -> Result<(), ScriptError> {
+fn check_settled(names: &Names, steps: &[Step]) -> Result<(), ScriptError> {
     for step in steps.iter().rev() {
         let Some(name) = claimed(step) else {
             continue;
         };
-        if is_claim(shapes, name) {
-            let fault = Fault::Unsettled(String::from_str(heap, name)?);
-            return Err(ScriptError::new(step.number, fault));
+        if names.is_claim(name) {
+            let name = String::from_str(names.heap, name)?;
+            return Err(ScriptError::Line(step.number, Fault::Unsettled(name)));
         }
     }
     Ok(())
@@ -115,12 +106,12 @@ fn check_settled(heap: Global, shapes: &Shapes, steps: &[Step]) -> Result<(), Sc
 fn steps_of(heap: Global, lines: &[Line]) -> Result<Vec<Step>, ScriptError>
     ensures { IfOk result (λ v. listed v.items ≡ numbered lines.now) }
 {
-    let mut shapes = first_shapes(heap)?;
+    let mut names = Names::new(heap)?;
     let mut steps = Vec::new(heap);
     for line in lines {
-        steps.push(step_of(heap, &mut shapes, line)?)?;
+        steps.push(step_of(&mut names, line)?)?;
     }
-    check_settled(heap, &shapes, steps.as_slice())?;
+    check_settled(&names, steps.as_slice())?;
     Ok(steps)
 }
 
@@ -128,10 +119,8 @@ fn steps_of(heap: Global, lines: &[Line]) -> Result<Vec<Step>, ScriptError>
 pub fn parse(heap: Global, bytes: &[u8]) -> Result<Program, ScriptError>
     ensures { IfOk result (λ p. Scripts bytes.now p) }
 {
-    match decode(bytes) {
-        Ok(text) => program_of(heap, text),
-        Err(error) => Err(ScriptError::new(error.line, Fault::NotText)),
-    }
+    let text = decode(bytes).map_err(|error| ScriptError::Line(error.line, Fault::NotText))?;
+    program_of(heap, text)
 }
 
 // The script that a text writes.
@@ -140,14 +129,10 @@ fn program_of(heap: Global, text: &str) -> Result<Program, ScriptError>
 {
     let lines = lines(heap, text)?;
     let Some((first, rest)) = lines.as_slice().split_first() else {
-        let end = text.lines().count().saturating_add(1);
-        return Err(ScriptError::new(end, Fault::NoMemory));
+        let end = text.lines().count() + 1;
+        return Err(ScriptError::Line(end, Fault::NoMemory));
     };
-    match setup_of(heap, first) {
-        Ok(setup) => {
-            let steps = steps_of(heap, rest)?;
-            Ok(Program { setup, steps })
-        }
-        Err(fault) => Err(ScriptError::new(first.number, fault)),
-    }
+    let setup = setup_of(heap, first).map_err(|fault| ScriptError::Line(first.number, fault))?;
+    let steps = steps_of(heap, rest)?;
+    Ok(Program { setup, steps })
 }

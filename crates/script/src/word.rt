@@ -1,8 +1,10 @@
 //! The words of the script language, and the form of a line with each.
+use crate::fault::Complaint;
+use std::str::FromStr;
 
 /// A word that says what a line asks for.
-#[derive(Clone, Copy)]
-pub(crate) enum Word {
+#[derive(Clone, Copy, Debug)]
+pub enum Word {
     Memory,
     Let,
     Subslice,
@@ -28,71 +30,41 @@ pub(crate) enum Word {
     Take,
 }
 
-const WORDS: [Word; 23] = [
-    Word::Memory,
-    Word::Let,
-    Word::Subslice,
-    Word::Offset,
-    Word::SplitAt,
-    Word::GetRef,
-    Word::GetArrayRef,
-    Word::RefAt,
-    Word::Write,
-    Word::WriteSlice,
-    Word::Read,
-    Word::ReadSlice,
-    Word::WriteObj,
-    Word::ReadObj,
-    Word::Store,
-    Word::Load,
-    Word::CopyFrom,
-    Word::CopyTo,
-    Word::CopyToVolatileSlice,
-    Word::Claim,
-    Word::Put,
-    Word::Settle,
-    Word::Take,
-];
+// The word that a field is.
+impl FromStr for Word {
+    type Err = Complaint;
+
+    fn from_str(field: &str) -> Result<Word, Complaint> {
+        Ok(match field {
+            "memory" => Word::Memory,
+            "let" => Word::Let,
+            "subslice" => Word::Subslice,
+            "offset" => Word::Offset,
+            "split_at" => Word::SplitAt,
+            "get_ref" => Word::GetRef,
+            "get_array_ref" => Word::GetArrayRef,
+            "ref_at" => Word::RefAt,
+            "write" => Word::Write,
+            "write_slice" => Word::WriteSlice,
+            "read" => Word::Read,
+            "read_slice" => Word::ReadSlice,
+            "write_obj" => Word::WriteObj,
+            "read_obj" => Word::ReadObj,
+            "store" => Word::Store,
+            "load" => Word::Load,
+            "copy_from" => Word::CopyFrom,
+            "copy_to" => Word::CopyTo,
+            "copy_to_volatile_slice" => Word::CopyToVolatileSlice,
+            "claim" => Word::Claim,
+            "put" => Word::Put,
+            "settle" => Word::Settle,
+            "take" => Word::Take,
+            _ => return Err(Complaint::UnknownCommand),
+        })
+    }
+}
 
 impl Word {
-    // The word that a field is.
-    pub(crate) fn of(field: &str) -> Option<Word> {
-        for word in WORDS.iter() {
-            if word.name() == field {
-                return Some(*word);
-            }
-        }
-        None
-    }
-
-    fn name(self) -> &'static str {
-        match self {
-            Word::Memory => "memory",
-            Word::Let => "let",
-            Word::Subslice => "subslice",
-            Word::Offset => "offset",
-            Word::SplitAt => "split_at",
-            Word::GetRef => "get_ref",
-            Word::GetArrayRef => "get_array_ref",
-            Word::RefAt => "ref_at",
-            Word::Write => "write",
-            Word::WriteSlice => "write_slice",
-            Word::Read => "read",
-            Word::ReadSlice => "read_slice",
-            Word::WriteObj => "write_obj",
-            Word::ReadObj => "read_obj",
-            Word::Store => "store",
-            Word::Load => "load",
-            Word::CopyFrom => "copy_from",
-            Word::CopyTo => "copy_to",
-            Word::CopyToVolatileSlice => "copy_to_volatile_slice",
-            Word::Claim => "claim",
-            Word::Put => "put",
-            Word::Settle => "settle",
-            Word::Take => "take",
-        }
-    }
-
     // The form of a line with the word.
     pub(crate) fn form(self) -> &'static str {
         match self {

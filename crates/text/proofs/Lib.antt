@@ -1,3 +1,3 @@
 pub mod Prefixes
-pub mod Sofar
-pub mod LineBreaks
+pub mod Spreads
+pub mod Readings

@@ -1,3 +1,4 @@
 pub mod Numerals
 pub mod Said
 pub mod PageMaps
+pub mod PageRanges

@@ -1,6 +1,8 @@
 -- The numbers of a text: decimal, or hexadecimal after 0x. Assumes nothing.
 use Rattle.std.specs.Prelude.{◌≡◌, ℕ, ◌^◌, ◌<◌, ◌≤◌, Bool, cond, ◌&&◌, List, drop, Ok, Err, Result, ◌==◌, slice_index}
 use Rattle.std.specs.Str.Parse.{IsNumeral, digits_value}
+use Rattle.std.specs.declared.num.IntErrorKind.{IntErrorKind}
+use Rattle.std.specs.declared.num.IntErrorKind.TheVariants.{Empty, InvalidDigit, PosOverflow, NegOverflow, Zero}
 use Rattle.text.specs.declared.numbers.NumberError.{NumberError}
 use Rattle.text.specs.declared.numbers.NumberError.TheVariants.{Malformed, TooLarge}
 
@@ -19,6 +21,14 @@ abbrev pub Reads : ℕ → List ℕ → Result ℕ NumberError → Type 0
 Reads radix ds (Ok n) = IsNumeral radix ds × (n ≡ digits_value radix ds) × (n < 2 ^ 64)
 Reads radix ds (Err Malformed) = IsNumeral radix ds → ⊥
 Reads radix ds (Err TooLarge) = IsNumeral radix ds → 2 ^ 64 ≤ digits_value radix ds
+
+-- what an error of std's parser of numbers is here
+abbrev pub number_error : IntErrorKind → NumberError
+number_error Empty = Malformed
+number_error InvalidDigit = Malformed
+number_error PosOverflow = TooLarge
+number_error NegOverflow = Malformed
+number_error Zero = Malformed
 
 -- a field writes a number
 abbrev pub Writes : List ℕ → ℕ → Type 0

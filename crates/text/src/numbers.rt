@@ -1,22 +1,27 @@
 //! Numbers, decimal or hexadecimal.
-ghost use Rattle.std.specs.Prelude.{◌≤◌};
-ghost use Rattle.text.specs.Numerals.{Reads, base_of, digits_of};
+ghost use Rattle.std.specs.Prelude.{◌≡◌, ◌≤◌};
+ghost use Rattle.std.specs.Str.Parse.{error_kind};
+ghost use Rattle.text.specs.Numerals.{Reads, base_of, digits_of, number_error};
 
-use std::fmt;
-use std::num::IntErrorKind;
+use std::num::{IntErrorKind, ParseIntError};
+use thiserror::Error;
 
 /// Why a field is no number of 64 bits.
-#[derive(Clone, Copy)]
+#[derive(Clone, Copy, Debug, Error)]
 pub enum NumberError {
+    #[error("not a number")]
     Malformed,
+    #[error("a number past 64 bits")]
     TooLarge,
 }
 
-impl fmt::Display for NumberError {
-    fn fmt<W: fmt::Write>(&self, f: &mut fmt::Formatter<W>) -> fmt::Result {
-        match self {
-            NumberError::Malformed => f.write_str("not a number"),
-            NumberError::TooLarge => f.write_str("a number past 64 bits"),
+impl From<ParseIntError> for NumberError {
+    ghost from_gives = { λ error number. number ≡ number_error (error_kind error) };
+
+    fn from(error: ParseIntError) -> NumberError {
+        match error.kind() {
+            IntErrorKind::PosOverflow => NumberError::TooLarge,
+            _ => NumberError::Malformed,
         }
     }
 }
@@ -39,11 +44,5 @@ fn unsigned(digits: &str, radix: u32) -> Result<usize, NumberError>
     if digits.starts_with('+') {
         return Err(NumberError::Malformed);
     }
-    match usize::from_str_radix(digits, radix) {
-        Ok(n) => Ok(n),
-        Err(error) => match error.kind() {
-            IntErrorKind::PosOverflow => Err(NumberError::TooLarge),
-            _ => Err(NumberError::Malformed),
-        },
-    }
+    Ok(usize::from_str_radix(digits, radix)?)
 }

@@ -7,6 +7,9 @@ use bitmap::AtomicBitmap;
 use std::alloc::{AllocError, Global};
 use std::fmt;
 
+/// The most pages that a program tracks.
+pub const MOST_PAGES: usize = 1048576;
+
 // How many pages stand on a line.
 const PAGES_A_LINE: usize = 64;
 
@@ -21,10 +24,9 @@ impl PageMap {
     pub fn new(heap: Global, map: &AtomicBitmap) -> Result<PageMap, AllocError>
         ensures { IfOk result (λ m. Shows (tracked map.now) m.pages.items) }
     {
-        let mut pages = Vec::new(heap);
-        for page in 0..map.len() {
-            pages.push(map.is_bit_set(page))?;
-        }
+        let pages = (0..map.len())
+            .map(|page| map.is_bit_set(page))
+            .collect(heap)?;
         Ok(PageMap { pages })
     }
 }
@@ -37,8 +39,8 @@ impl fmt::Display for PageMap {
 }
 
 fn write_pages<W: fmt::Write>(f: &mut fmt::Formatter<W>, pages: &[bool]) -> fmt::Result {
-    for (index, line) in pages.chunks(PAGES_A_LINE).enumerate() {
-        let first = index * PAGES_A_LINE;
+    let firsts = (0..pages.len()).step_by(PAGES_A_LINE);
+    for (first, line) in firsts.zip(pages.chunks(PAGES_A_LINE)) {
         write!(f, "{first:>8}  ")?;
         write_marks(f, line)?;
         f.write_char('\n')?;

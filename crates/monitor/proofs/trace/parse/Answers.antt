@@ -1,6 +1,6 @@
 use Rattle.std.proofs.Common.{List, sym, ◌∙◌, subst}
-use Rattle.monitor.specs.Texts.{Says, numbered}
-use Rattle.monitor.specs.declared.trace.Line.{Line}
+use Rattle.text.specs.Said.{Says, numbered}
+use Rattle.text.specs.declared.reading.Line.{Line}
 use Rattle.monitor.proofs.trace.parse.Goals as goal
 
 pub returns : goal.returns

@@ -1,34 +1,24 @@
-use Rattle.std.proofs.Common.{ℕ, ◌+◌, Bool, List, [], ◌∷◌, ◌++◌, vec_items, refl, ap, ◌∙◌, subst, rules}
-use Rattle.std.specs.Iterator.Adapters.{enumerate_source, enumerate_count}
-use Rattle.std.specs.Str.Iter.{lines_rest}
-use Rattle.text.specs.Said.{Skips, Says, numbered}
-use Rattle.text.proofs.Sofar.{none_yet, one_skipped, one_kept, no_more, numbered_push}
+use Rattle.std.proofs.Common.{◌≡◌, ℕ, ◌+◌, List, [], ◌∷◌, not, map, refl, ap, ◌∙◌, rules}
+use Rattle.std.specs.List.{filter, enumerate_from}
+use Rattle.std.specs.Str.Lines.{lines}
+use Rattle.std.proofs.lemmas.Iterator.{YieldsList-from_map_by}
+use Rattle.std.proofs.lemmas.Iterator.Consumers.{YieldsList-from_filter, YieldsList-from_enumerate, YieldsList-at, map_from_collect}
+use Rattle.std.proofs.lemmas.Iterator.Splits.{YieldsList-from_lines}
+use Rattle.std.proofs.lemmas.Result.{IfOk-weaker}
+use Rattle.text.specs.Said.{skips}
+use Rattle.text.specs.declared.reading.Line.{Line}
 use Rattle.text.proofs.reading.lines.Goals as goal
 
-pub loop-index-init : goal.loop-index-init
-loop-index-init c =
-    let begins = c.into_iter-index-iterator.ensures.into_iter_gives in
-    (search rules, tt, none_yet _ _ _ _ refl (ap enumerate_count begins ∙ c.enumerate-index-items.ensures.count) (ap numbered c.new-lines.ensures.items))
-
-pub loop-index-preserved-then-is_skipped : goal.loop-index-preserved-then-is_skipped
-loop-index-preserved-then-is_skipped c =
-    let step = c.in-Some.ensures.steps in
-    let goes = c.in-Some.ensures.goes in
-    let P : Bool → Type 0 = Skips c.in-Some.text.now in
-    (search rules, tt, one_skipped _ _ _ _ c.loop-index.invariant.2 _ _ _ step.2 step.0.0.2 (subst P c.if-is_skipped.true c.is_skipped.ensures))
-
-pub loop-index-preserved : goal.loop-index-preserved
-loop-index-preserved c =
-    let step = c.in-Some.ensures.steps in
-    let goes = c.in-Some.ensures.goes in
-    let P : Bool → Type 0 = Skips c.in-Some.text.now in
-    let old = vec_items c.loop-index.lines in
-    let said = ap numbered c.in_ok-push.ensures.items ∙ numbered_push old _ ∙ ap (λ i. numbered old ++ ((i + 1, c.in-Some.text.now) ∷ [])) step.1 in
-    (search rules, tt, one_kept _ _ _ _ c.loop-index.invariant.2 _ _ _ _ step.2 said step.0.0.2 (subst P c.if-is_skipped.false c.is_skipped.ensures))
+-- numbers from 1 on are numbers from 0 on, and one more
+from_one : (n : ℕ) (ls : List (List ℕ)) → map (λ (p : ℕ × List ℕ). (p.0 + 1, p.1)) (enumerate_from n ls) ≡ enumerate_from (n + 1) ls
+from_one n [] = refl
+from_one n (l ∷ ls) = ap (λ (ks : List (ℕ × List ℕ)). (n + 1, l) ∷ ks) (from_one (n + 1) ls)
 
 pub returns : goal.returns
 returns c =
-    let step = c.in-None.ensures.steps in
-    let whole = ap (λ s. lines_rest (enumerate_source s)) c.into_iter-index-iterator.ensures.into_iter_gives ∙ ap lines_rest c.enumerate-index-items.ensures.source ∙ c.lines.ensures.rest in
-    let P : List ℕ → Type 0 = λ bs. Says bs (numbered (vec_items c.loop-index.lines)) in
-    subst P whole (no_more _ _ _ _ c.loop-index.invariant.2 step.0.0.0)
+    let text = c.args.text.now in
+    let test = λ (k : ℕ × List ℕ). not (skips k.1) in
+    let numbers = YieldsList-from_enumerate (YieldsList-at c.enumerate.ensures.source (YieldsList-from_lines text c.lines.ensures.rest)) c.enumerate.ensures.count in
+    let made = YieldsList-from_map_by _ (λ (l : Line). (l.number, l.text.now)) (λ (p : ℕ × List ℕ). (p.0 + 1, p.1)) (YieldsList-at c.map.ensures.source numbers) c.map.ensures.closure (λ x r q k. search rules) in
+    let road = YieldsList-from_filter _ test (YieldsList-at c.filter.ensures.source made) c.filter.ensures.closure (λ x b q k. search rules) in
+    IfOk-weaker c.collect.result _ _ (λ v e. e ∙ ap (filter test) (from_one 0 (lines text))) (map_from_collect c.collect.result c.collect.ensures.ran road)

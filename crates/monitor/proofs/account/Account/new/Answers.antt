@@ -1,7 +1,8 @@
 use Rattle.std.proofs.Common.{◌≡◌, ◌*◌, ◌≤◌, length, vec_items, refl, ap, ◌∙◌, subst, arith}
 use Rattle.bitmap.specs.Pages.{Meaning, ceiling}
 use Rattle.bitmap.specs.Tracked.{tracked}
-use Rattle.monitor.specs.Marks.{Shows, Sums, after, turns, clean_map, clean_log}
+use Rattle.text.specs.PageMaps.{Shows}
+use Rattle.monitor.specs.Marks.{Sums, after, turns, clean_map, clean_log}
 use Rattle.monitor.proofs.Starts.{map_start}
 use Rattle.monitor.proofs.Turns.{after-count}
 use Rattle.monitor.proofs.account.Account.new.Goals as goal
@@ -32,7 +33,7 @@ returns c =
     record {
       memory = refl;
       entries = c.in_ok-entries.ensures.turns ∙ ap (λ b. turns b c.as_slice.result.now) (starts at) ∙ ap (turns (clean_map m)) c.as_slice.ensures.value;
-      pages = let P : Meaning → Type 0 = λ b. Shows b (vec_items c.in_ok-pages.pages) in subst P (ends at) c.in_ok-pages.ensures;
+      pages = let P : Meaning → Type 0 = λ b. Shows b (vec_items c.in_ok-pages.pages.pages) in subst P (ends at) c.in_ok-pages.ensures;
       log = c.in_ok-log.ensures ∙ ap (after (clean_log m)) c.as_slice-2.ensures.value;
       summary = let P : Meaning → Type 0 = λ b. Sums b c.new-summary.result in subst P (ends at) c.new-summary.ensures;
     }

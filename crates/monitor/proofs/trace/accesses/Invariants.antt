@@ -1,6 +1,0 @@
-use Rattle.std.proofs.Common.{take, vec_items}
-use Rattle.monitor.specs.Texts.{numbered, AccessLines}
-use Rattle.monitor.proofs.trace.accesses.Given as goal
-
-abbrev pub invariant-loop-line : goal.invariant-loop-line
-invariant-loop-line l = AccessLines (numbered (take l.line-index l.lines)) (vec_items l.accesses)
