@@ -29,19 +29,25 @@ module _ (d : ℕ → Bool) where
   dirty_all n = let e : 0 + n ≡ n = omega arith in dirty_more 0 n ∙ ap (dirty_below d) e
 
   -- the first of them is the one that a search finds
-  pub found_some : (m k x : ℕ) → Some x ≡ find d (range_with_len m k) → (m ≤ x) × (x < m + k) × (dirty_from d m k ≡ x ∷ dirty_from d (x + 1) (m + k - (x + 1)))
-  found_some m zero x is = let z : ◌≡◌ {A = ℕ} 0 1 = cc in absurd (omega arith)
-  found_some m (suc k) x is =
+  first_found : (m k x : ℕ) → Some x ≡ find d (range_with_len m k) → (m ≤ x) × (x < m + k) × (dirty_from d m k ≡ x ∷ dirty_from d (x + 1) (m + k - (x + 1)))
+  first_found m zero x is = let z : ◌≡◌ {A = ℕ} 0 1 = cc in absurd (omega arith)
+  first_found m (suc k) x is =
       elim (cases_Bool (d m)) [
         | inl e ↦
             let same : x ≡ m = let here = is ∙ cond-true _ _ _ e in cc in
             let left : m + suc k - (m + 1) ≡ k = omega arith in
             (omega arith, omega arith, rw (e, same, left))
         | inr e ↦
-            let later = found_some (m + 1) k x (is ∙ cond-false _ _ _ e) in
+            let later = first_found (m + 1) k x (is ∙ cond-false _ _ _ e) in
             let left : m + 1 + k - (x + 1) ≡ m + suc k - (x + 1) = omega arith in
             (omega (arith, later.0), omega (arith, later.1), rw e (later.2 ∙ ap (λ n. x ∷ dirty_from d (x + 1) n) left))
       ]
+
+  pub found_some : (next end x : ℕ) → Some x ≡ find d (range_with_len next (end - next)) → (x < end) × (dirty_from d next (end - next) ≡ x ∷ dirty_from d (x + 1) (end - (x + 1)))
+  found_some next end x is =
+      let found = first_found next (end - next) x is in
+      let e : next + (end - next) - (x + 1) ≡ end - (x + 1) = omega (arith, found.0, found.1) in
+      (omega (arith, found.0, found.1), found.2 ∙ ap (λ n. x ∷ dirty_from d (x + 1) n) e)
 
   pub found_none : (m k : ℕ) → None ≡ find d (range_with_len m k) → dirty_from d m k ≡ []
   found_none m zero is = refl

@@ -15,7 +15,7 @@ use volatile_memory::{Error, Rule};
 fn is_right(page: usize, low: usize, count: usize) -> bool
     ensures { result ≡ (nat_le low page && nat_lt page count) }
 {
-    low <= page && page < count
+    (low..count).contains(&page)
 }
 
 /// The pages that a parcel carries for a memory: their numbers, and their bytes one page after another.

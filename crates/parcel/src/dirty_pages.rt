@@ -1,5 +1,6 @@
 //! The dirty pages of a memory.
 ghost use Rattle.std.specs.Prelude.{◌≡◌, ◌+◌, ◌-◌, ◌*◌, ◌≤◌, length, min};
+ghost use Rattle.std.specs.List.{find, range_with_len};
 ghost use Rattle.std.specs.Iterator.{YieldsFirst, item_count};
 ghost use Rattle.bitmap.specs.Pages.{dirty, top};
 ghost use Rattle.volatile_memory.specs.Faults.{said};
@@ -33,6 +34,16 @@ pub(crate) struct DirtyNumbers<'a, B> {
     end: usize,
 }
 
+impl<'a, B: CleanBitmap> DirtyNumbers<'a, B> {
+    // The first of them.
+    fn first(&self) -> Option<usize>
+        ensures { result ≡ find (dirty (B.Bitmap.means self.now.bitmap.now)) (range_with_len self.now.next (self.now.end - self.now.next)) }
+    {
+        let bitmap = self.bitmap;
+        (self.next..self.end).find(|page| is_dirty(bitmap, *page))
+    }
+}
+
 impl<'a, B: CleanBitmap> Iterator for DirtyNumbers<'a, B> {
     type Item = usize;
 
@@ -41,8 +52,7 @@ impl<'a, B: CleanBitmap> Iterator for DirtyNumbers<'a, B> {
     ghost remaining = { item_count (λ s. dirty_from (dirty (B.Bitmap.means s.bitmap.now)) s.next (s.end - s.next)) };
 
     fn next(&mut self) -> Option<usize> {
-        let bitmap = self.bitmap;
-        let page = (self.next..self.end).find(|page| is_dirty(bitmap, *page))?;
+        let page = self.first()?;
         self.next = page + 1;
         Some(page)
     }
