@@ -1,5 +1,5 @@
 -- A parcel's page numbers, looked at one by one. Assumes nothing.
-use Rattle.std.proofs.Common.{◌≡◌, ℕ, zero, suc, ◌+◌, ◌-◌, ◌*◌, ◌/◌, ◌<◌, ◌≤◌, min, true, false, cond, ◌&&◌, ltb, leb, Some, None, Option, List, [], ◌∷◌, length, take, drop, sym, refl, ap, ap₂, ◌∙◌, subst, inl, inr, mul-le-mul_right, suc-mul, arith, length-drop, length-take}
+use Rattle.std.proofs.Common.{◌≡◌, ℕ, zero, suc, ◌+◌, ◌-◌, ◌*◌, ◌/◌, ◌<◌, ◌≤◌, min, true, cond, ◌&&◌, ltb, leb, Some, None, Option, List, [], ◌∷◌, length, take, drop, sym, refl, ap, ap₂, ◌∙◌, subst, inl, inr, mul-le-mul_right, suc-mul, arith, length-drop, length-take}
 use Rattle.std.proofs.lemmas.List.{drop-drop, drop-take, take-take}
 use Rattle.std.proofs.lemmas.Bool.{cases_Bool, le-ltb, lt-ltb, le-leb, cond-true, cond-false, and_parts, leb-true, ltb-true, ltb-false}
 use Rattle.byte_valued.specs.Buffers.{made_of}
@@ -21,7 +21,7 @@ number_behind bs j i =
     let e : j * 8 + i * 8 ≡ (j + i) * 8 = omega arith in
     ap (λ xs. number_of (take 8 xs)) (drop-drop (i * 8) (j * 8) bs ∙ ap (λ n. drop n bs) e)
 
-numbers_behind : (bs : List ℕ) (j i k : ℕ) → numbers (drop (j * 8) bs) i k ≡ numbers bs (j + i) k
+pub numbers_behind : (bs : List ℕ) (j i k : ℕ) → numbers (drop (j * 8) bs) i k ≡ numbers bs (j + i) k
 numbers_behind bs j i zero = refl
 numbers_behind bs j i (suc k) =
     let e : j + (i + 1) ≡ j + i + 1 = omega arith in
@@ -49,9 +49,6 @@ numbers_first bs long =
 -- a number made of the first 8 bytes
 pub number_made : (bs first : List ℕ) (r : Option ℕ) → first ≡ take 8 bs → length first ≡ 8 → r ≡ made_of 8 number_of first → r ≡ Some (number_of (take 8 bs))
 number_made bs first r first_is long made = made ∙ rw (long, first_is) refl
-
-pub numbers_short : (bs : List ℕ) → length bs < 8 → numbers_of bs ≡ []
-numbers_short bs short = let e : length bs / 8 ≡ 0 = omega arith in ap (numbers bs 0) e
 
 -- three numbers that come first are those of the head, and with fewer there is none
 pub first_read : (bs rest : List ℕ) (a b c : ℕ) → numbers_of bs ≡ a ∷ b ∷ c ∷ rest → Some (a, b, c) ≡ first_of bs
@@ -102,14 +99,6 @@ pub wrong_listed : (bs : List ℕ) (n low i k : ℕ) → wrong_from bs n low i k
 wrong_listed bs n low i zero = refl
 wrong_listed bs n low i (suc k) =
     ap (λ a. cond (leb low (number_at bs i) && ltb (number_at bs i) n) a (refuses (bad_parcel 5 (i * 8)))) (wrong_listed bs n (number_at bs i + 1) (i + 1) k)
-
-module _ (n low i q : ℕ) (qs : List ℕ) where
-  -- the next number is right, or the first wrong one
-  pub right_next : (leb low q && ltb q n) ≡ true → wrong_among n low i (q ∷ qs) ≡ wrong_among n (q + 1) (i + 1) qs
-  right_next right = cond-true _ _ _ right
-
-  pub wrong_here : (leb low q && ltb q n) ≡ false → wrong_among n low i (q ∷ qs) ≡ refuses (bad_parcel 5 (i * 8))
-  wrong_here wrong = cond-false _ _ _ wrong
 
 -- numbers that rise below n are pages of n
 pub right_below : (n low i x : ℕ) (qs : List ℕ) → wrong_among n low i qs ≡ gives x → Below n qs

@@ -58,7 +58,7 @@ head-laid buf a b c fits =
     ap (λ x. overlaid x 16 (bytes_of 8 c)) (overlaid_next buf (bytes_of 8 a) (bytes_of 8 b) 0 8 refl (omega arith)) ∙ overlaid_next buf (words (a ∷ b ∷ [])) (bytes_of 8 c) 0 16 refl (omega arith)
 
 module _ (p : ℕ) (memory qs : List ℕ) where
-  length-head : length (words (head p memory qs)) ≡ 24 + 8 * length qs
+  pub length-head : length (words (head p memory qs)) ≡ 24 + 8 * length qs
   length-head = omega (arith, length-words (head p memory qs))
 
   pub length-parcel : length (parcel p memory qs) ≡ 24 + 8 * length qs + sum_of (page_length p (length memory)) qs

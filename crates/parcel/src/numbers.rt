@@ -35,7 +35,8 @@ impl<'a> Iterator for Numbers<'a> {
     }
 }
 
-// Lays bytes into a buffer from `at` on, and says where they end.
+// Lays bytes into a buffer from `at` on, and says where they end. Parts are laid by their places, since a proof knows
+// nothing of what a loop over `chunks_exact_mut` wrote.
 pub(crate) fn lay(buf: &mut [u8], at: usize, bytes: &[u8]) -> usize
     requires { at + length bytes.now ≤ length buf.old }
     ensures end { result ≡ at + length bytes.now }

@@ -1,6 +1,6 @@
 //! Claims and parcels, on ten bytes in pages of four.
 use bitmap::{AtomicBitmap, BaseSlice, PageSize};
-use parcel::{Contents, Taken, apply, inspect, take};
+use parcel::{Contents, Taken, apply, inspect, page_number, take};
 use std::test::Fail;
 use volatile_memory::{Error, Rule, VolatileSlice};
 
@@ -103,6 +103,9 @@ fn a_parcel_is_applied(rt: HostRuntime) -> Result<(), Fail> {
             total: 10,
         })
     );
+    let numbers = [0, 1, 2].map(|index| page_number(&TWO_PAGES, index));
+    assert_eq!(rt; numbers, [Some(0), Some(2), None]);
+    assert_eq!(rt; page_number(&TWO_PAGES[0..39], 1), None, "no second number");
     assert_eq!(rt;
         inspect(&TWO_PAGES[0..45]),
         Err(Error::BadParcel {
