@@ -14,68 +14,63 @@ struct OpenClaim {
 
 /// The claims that are open, which end by being settled.
 pub(crate) struct Claims {
-    open: Vec<OpenClaim>,
+    heap: Global,
+    claims: Vec<OpenClaim>,
 }
 
 impl Claims {
     /// No claim.
     pub(crate) fn new(heap: Global) -> Claims {
         Claims {
-            open: Vec::new(heap),
+            heap,
+            claims: Vec::new(heap),
         }
     }
 
     /// Opens a claim on a view.
-    pub(crate) fn open(
-        &mut self,
-        heap: Global,
-        name: &str,
-        view: &VolatileSlice,
-    ) -> Result<(), AllocError> {
-        let name = String::from_str(heap, name)?;
+    pub(crate) fn open(&mut self, name: &str, view: &VolatileSlice) -> Result<(), AllocError> {
+        let name = String::from_str(self.heap, name)?;
         // With room for it, the claim is not lost for want of memory.
-        self.open.reserve(1)?;
+        self.claims.reserve(1)?;
         let claim = view.ptr_guard_mut();
-        self.open.push(OpenClaim { name, claim }).unwrap();
+        self.claims.push(OpenClaim { name, claim }).unwrap();
         Ok(())
     }
 
     /// The claim of a name.
-    pub(crate) fn get(&self, heap: Global, name: &str) -> Result<&Claim, Fault> {
-        let at = self.position(heap, name)?;
-        Ok(&self.open[at].claim)
+    pub(crate) fn get(&self, name: &str) -> Result<&Claim, Fault> {
+        let at = self.position(name)?;
+        Ok(&self.claims[at].claim)
     }
 
     /// Settles the claim of a name.
-    pub(crate) fn settle(
-        &mut self,
-        heap: Global,
-        map: &mut AtomicBitmap,
-        name: &str,
-    ) -> Result<(), Fault> {
-        let at = self.position(heap, name)?;
-        self.open.swap_remove(at).settle(map);
+    pub(crate) fn settle(&mut self, map: &mut AtomicBitmap, name: &str) -> Result<(), Fault> {
+        let at = self.position(name)?;
+        self.claims.swap_remove(at).settle(map);
         Ok(())
     }
 
     /// Settles what is still open.
     pub(crate) fn settle_all(self, map: &mut AtomicBitmap) {
-        let Claims { mut open } = self;
+        let Claims {
+            heap: _,
+            mut claims,
+        } = self;
         // A vector's iterator may be let go, and so takes no claims.
-        while let Some(claim) = open.pop() {
+        while let Some(claim) = claims.pop() {
             claim.settle(map);
         }
-        open.destroy_empty();
+        claims.destroy_empty();
     }
 
     // Where the claim of a name stands.
-    fn position(&self, heap: Global, name: &str) -> Result<usize, Fault>
-        ensures { IfOk result (λ i. i < vec_len self.now.open) }
+    fn position(&self, name: &str) -> Result<usize, Fault>
+        ensures { IfOk result (λ i. i < vec_len self.now.claims) }
     {
-        self.open
+        self.claims
             .iter()
             .position(|open| open.name.as_str() == name)
-            .ok_or_else(|| unnamed(heap, name))
+            .ok_or_else(|| unnamed(self.heap, name))
     }
 }
 

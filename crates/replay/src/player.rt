@@ -114,20 +114,19 @@ impl Player<'_> {
     }
 
     fn claim(&mut self, name: &str, call: &ClaimCall) -> Result<Answer, Halt> {
-        let heap = self.guest.heap;
         match call {
             ClaimCall::Open { view } => {
                 let view = self.view(view.as_str())?;
-                self.claims.open(heap, name, &view)?;
+                self.claims.open(name, &view)?;
                 Ok(Answer::Size(view.len()))
             }
             ClaimCall::Put { addr, bytes } => {
-                let claim = self.claims.get(heap, name)?;
+                let claim = self.claims.get(name)?;
                 let memory = self.guest.memory.as_mut_slice();
                 Ok(Answer::Size(claim.put(memory, bytes.as_slice(), *addr)?))
             }
             ClaimCall::Settle => {
-                self.claims.settle(heap, &mut self.guest.map, name)?;
+                self.claims.settle(&mut self.guest.map, name)?;
                 Ok(Answer::Done)
             }
         }

@@ -20,6 +20,7 @@ pub(crate) trait Element: ByteValued {
         ensures { result ≡ value_of self };
 }
 
+// An impl for each: no bound of std turns all nine into an i128, and the gate takes no impls by macros of one's own.
 impl Element for u8 {
     ghost value_of = { λ n. Number (pos n) };
 

@@ -1,2 +1,3 @@
+pub mod Kinds
 pub mod Scripts
 pub mod Values

@@ -1,9 +1,7 @@
 //! Commands, as lines write them.
 use crate::command::{AtomicCall, ByteCall, ClaimCall, Command, ElementCall};
 use crate::fault::{Complaint, Fault, faulty};
-use crate::fields::{
-    bytes_of, fitting_of, kind_of, length_of, number_of, value_of, values_of, word_of,
-};
+use crate::fields::{bytes_of, fitting_of, length_of, named, number_of, value_of, values_of};
 use crate::kind::{IntegerKind, Kind};
 use crate::names::{Names, Shape};
 use crate::word::Word;
@@ -14,7 +12,7 @@ impl Names {
         let Some((first, rest)) = fields.split_first() else {
             return Err(Fault::Form(Word::Let));
         };
-        let word = word_of(self.heap, first)?;
+        let word = named::<Word>(self.heap, first)?;
         match word {
             Word::Memory => Err(Fault::SecondMemory),
             Word::Let => self.let_command(rest),
@@ -75,7 +73,7 @@ impl Names {
         let [kind, view, addr, rest @ ..] = fields else {
             return Err(Fault::Form(Word::WriteObj));
         };
-        let kind = kind_of(self.heap, kind)?;
+        let kind = named::<Kind>(self.heap, kind)?;
         let name = self.view(view)?;
         let addr = number_of(self.heap, addr)?;
         let value = value_of(self.heap, Word::WriteObj, kind, rest)?;
@@ -87,7 +85,7 @@ impl Names {
         let [kind, view, addr] = fields else {
             return Err(Fault::Form(Word::ReadObj));
         };
-        let kind = kind_of(self.heap, kind)?;
+        let kind = named::<Kind>(self.heap, kind)?;
         let name = self.view(view)?;
         let addr = number_of(self.heap, addr)?;
         let call = ElementCall::ReadObj { addr };
@@ -214,7 +212,7 @@ impl Names {
                 Ok(Command::Elements { kind, name, call })
             }
             [kind, view, n] => {
-                let kind = kind_of(self.heap, kind)?;
+                let kind = named::<Kind>(self.heap, kind)?;
                 let name = self.view(view)?;
                 let call = ElementCall::CopyTo(length_of(self.heap, n)?);
                 Ok(Command::Elements { kind, name, call })

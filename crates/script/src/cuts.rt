@@ -1,7 +1,8 @@
 //! Cuts of views and arrays, as lines write them.
 use crate::command::{Command, Cut};
 use crate::fault::Fault;
-use crate::fields::{kind_of, number_of, word_of};
+use crate::fields::{named, number_of};
+use crate::kind::Kind;
 use crate::names::{Names, Shape};
 use crate::word::Word;
 
@@ -13,7 +14,7 @@ impl Names {
                 self.split_command(first, second, from, mid)
             }
             [name, equals, from, word, rest @ ..] if *equals == "=" => {
-                let (cut, shape) = self.cut_of(word_of(self.heap, word)?, from, rest)?;
+                let (cut, shape) = self.cut_of(named::<Word>(self.heap, word)?, from, rest)?;
                 Ok(Command::Let {
                     name: self.give(name, shape)?,
                     from: String::from_str(self.heap, from)?,
@@ -79,7 +80,7 @@ impl Names {
             return Err(Fault::Form(Word::GetRef));
         };
         self.view(from)?;
-        let kind = kind_of(self.heap, kind)?;
+        let kind = named::<Kind>(self.heap, kind)?;
         let offset = number_of(self.heap, offset)?;
         Ok((Cut::Reference { kind, offset }, Shape::Reference(kind)))
     }
@@ -89,7 +90,7 @@ impl Names {
             return Err(Fault::Form(Word::GetArrayRef));
         };
         self.view(from)?;
-        let kind = kind_of(self.heap, kind)?;
+        let kind = named::<Kind>(self.heap, kind)?;
         let offset = number_of(self.heap, offset)?;
         let n = number_of(self.heap, n)?;
         Ok((Cut::Array { kind, offset, n }, Shape::Array(kind)))

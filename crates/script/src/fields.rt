@@ -8,6 +8,7 @@ use crate::kind::{IntegerKind, Kind};
 use crate::word::Word;
 use byte_valued::LineHead;
 use std::alloc::Global;
+use std::str::FromStr;
 use text::number;
 
 /// The number that a field writes.
@@ -26,17 +27,10 @@ pub(crate) fn length_of(heap: Global, field: &str) -> Result<usize, Fault> {
     Ok(n)
 }
 
-/// The word that a field is.
-pub(crate) fn word_of(heap: Global, field: &str) -> Result<Word, Fault> {
+/// The word or the kind that a field names.
+pub(crate) fn named<T: FromStr<Err = Complaint>>(heap: Global, field: &str) -> Result<T, Fault> {
     field
-        .parse::<Word>()
-        .map_err(|complaint| faulty(heap, complaint, field))
-}
-
-/// The kind that a field names.
-pub(crate) fn kind_of(heap: Global, field: &str) -> Result<Kind, Fault> {
-    field
-        .parse::<Kind>()
+        .parse::<T>()
         .map_err(|complaint| faulty(heap, complaint, field))
 }
 

@@ -1,5 +1,6 @@
 //! The kinds of element that a script names.
 ghost use Rattle.std.specs.Prelude.{◌<◌};
+ghost use Rattle.script.specs.Kinds.{Named};
 
 use crate::fault::Complaint;
 use std::str::FromStr;
@@ -63,6 +64,8 @@ impl Kind {
 // The kind of a name.
 impl FromStr for Kind {
     type Err = Complaint;
+
+    ghost from_str_gives = { Named };
 
     fn from_str(name: &str) -> Result<Kind, Complaint> {
         Ok(Kind::Integer(match name {

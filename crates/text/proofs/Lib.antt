@@ -1,3 +1,1 @@
-pub mod Prefixes
 pub mod Spreads
-pub mod Readings

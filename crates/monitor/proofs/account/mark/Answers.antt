@@ -4,11 +4,8 @@ use Rattle.monitor.specs.Marks.{turned}
 use Rattle.monitor.proofs.Turns.{turned-marked}
 use Rattle.monitor.proofs.account.mark.Goals as goal
 
-pub returns : goal.returns
-returns c =
+pub returns-clause-turned : goal.returns-clause-turned
+returns-clause-turned c =
     let b = tracked c.args.map.now in
     let access = c.args.access in
-    record {
-      turned = c.in_ok-turned.ensures ∙ turned-marked b access.offset access.len ∙ ap (turned b) (sym c.mark_dirty.ensures.marks);
-      means = c.mark_dirty.ensures.marks;
-    }
+    c.in_ok-turned.ensures ∙ turned-marked b access.offset access.len ∙ ap (turned b) (sym c.mark_dirty.ensures.marks)

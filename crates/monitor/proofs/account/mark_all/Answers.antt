@@ -1,7 +1,6 @@
 use Rattle.std.proofs.Common.{vec_items, refl, ap, ◌∙◌}
-use Rattle.std.proofs.lemmas.List.{take_all}
 use Rattle.bitmap.specs.Tracked.{tracked}
-use Rattle.monitor.specs.Marks.{after, turns, told}
+use Rattle.monitor.specs.Marks.{told}
 use Rattle.monitor.proofs.Turns.{after_more, turns_more}
 use Rattle.monitor.proofs.account.mark_all.Goals as goal
 
@@ -17,9 +16,3 @@ loop-access-preserved c =
       ap told c.in_ok-push.ensures.items ∙ turns_more b old new xs i _ c.loop-access-test.true inv.1 marks.means (vec_items c.loop-access.entries) _ inv.0 refl marks.turned,
       after_more b old new xs i _ c.loop-access-test.true inv.1 marks.means,
     )
-
-pub returns : goal.returns
-returns c =
-    let b = tracked c.args.map.now in
-    let all = take_all c.loop-access.access-index c.args.accesses.now c.loop-access-test.false in
-    record { turns = c.loop-access.invariant.0 ∙ ap (turns b) all; means = c.loop-access.invariant.1 ∙ ap (after b) all }

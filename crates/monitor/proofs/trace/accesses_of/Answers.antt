@@ -1,5 +1,5 @@
 use Rattle.std.proofs.Common.{◌≡◌, ℕ, ◌+◌, ◌<◌, List, [], ◌∷◌, ◌++◌, length, get_or, take, vec_items, sym, ap, ◌∙◌, subst}
-use Rattle.std.proofs.lemmas.List.{take_more, take_all}
+use Rattle.std.proofs.lemmas.List.{take_more}
 use Rattle.monitor.specs.Fields.{TwoNumbers}
 use Rattle.text.specs.Said.{numbered}
 use Rattle.monitor.specs.Texts.{AccessLines}
@@ -24,8 +24,3 @@ accesses_more ls i d xs ys a less h put here =
 
 pub loop-line-preserved : goal.loop-line-preserved
 loop-line-preserved c = accesses_more c.args.lines.now c.loop-line.line-index _ (vec_items c.loop-line.accesses) _ c.in_ok-access_of.field-0 c.loop-line-test.true c.loop-line.invariant c.in_ok-push.ensures.items c.in_ok-access_of.ensures
-
-pub returns : goal.returns
-returns c =
-    let P : List Line → Type 0 = λ ls. AccessLines (numbered ls) (vec_items c.loop-line.accesses) in
-    subst P (take_all c.loop-line.line-index c.args.lines.now c.loop-line-test.false) c.loop-line.invariant
