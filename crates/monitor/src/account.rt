@@ -72,6 +72,7 @@ fn mark_all(
     ensures means { OnOk result (tracked map.new ≡ after (tracked map.old) accesses.now) }
 {
     let mut entries = Vec::new(heap);
+    // A loop, since nothing is known of a closure's answers that marks what it captures.
     for access in accesses {
         let turned = mark(heap, map, *access)?;
         entries.push(Entry {

@@ -40,6 +40,7 @@ fn print<T: Display>(rt: &HostRuntime, account: &T) -> anyhow::Result<()> {
     Ok(())
 }
 
+// What goes wrong is only told, so its text is kept and not its type.
 fn run(rt: &HostRuntime) -> anyhow::Result<()> {
     match command_of(env::args(rt)?)? {
         Command::Marks(None) => print(rt, &marks(rt.alloc(), read_input(rt)?.as_slice())?),

@@ -114,6 +114,7 @@ fn accesses_of(heap: Global, lines: &[Line]) -> Result<Vec<Access>, TraceError>
     ensures { IfOk result (λ v. AccessLines (numbered lines.now) v.items) }
 {
     let mut accesses = Vec::new(heap);
+    // A loop, since what is collected into a `Result` is not known to be what the lines say.
     for line in lines {
         accesses.push(access_of(heap, line)?)?;
     }

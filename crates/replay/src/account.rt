@@ -62,6 +62,7 @@ fn entries_of(heap: Global, player: &mut Player, steps: &[Step]) -> Result<Vec<E
     ensures { IfOk result (λ v. told v.items ≡ listed steps.now) }
 {
     let mut entries = Vec::new(heap);
+    // A loop, since what is collected into a `Result` is not known to be of these steps.
     for step in steps {
         entries.push(entry_of(player, step)?)?;
     }

@@ -108,6 +108,7 @@ fn steps_of(heap: Global, lines: &[Line]) -> Result<Vec<Step>, ScriptError>
 {
     let mut names = Names::new(heap)?;
     let mut steps = Vec::new(heap);
+    // A loop, since what is collected into a `Result` is not known to be what the lines say.
     for line in lines {
         steps.push(step_of(&mut names, line)?)?;
     }
