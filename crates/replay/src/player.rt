@@ -1,6 +1,4 @@
 //! The commands of a script, called one after the other.
-ghost use Rattle.std.specs.Prelude.{◌≡◌, IfOk};
-
 use crate::answer::Answer;
 use crate::claims::Claims;
 use crate::comparison::Difference;
