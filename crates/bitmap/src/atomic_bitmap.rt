@@ -1,11 +1,12 @@
 //! A bitmap over words that are lent.
-ghost use Rattle.std.specs.Prelude.{◌≡◌, ◌*◌, ◌/◌, true, false, ◌∷◌, length, replicate};
-ghost use Rattle.bitmap.specs.Pages.{clean, page_count, dirty, with_bits, assigned, assigned_page, marked, cleaned};
+ghost use Rattle.std.specs.Prelude.{◌≡◌, ℕ, ◌*◌, ◌/◌, ◌≤◌, ◌&&◌, nat_le, nat_lt, true, false, ◌∷◌, length, replicate};
+ghost use Rattle.bitmap.specs.Pages.{clean, page_count, dirty, with_bits, assigned, assigned_page, marked, cleaned, reaches};
 ghost use Rattle.bitmap.specs.Sound.{tracked_paged, tracked_bounded};
 ghost use Rattle.bitmap.specs.Tracked.{loan, fixed, tracked};
 
 use crate::extent::Extent;
 use crate::{Bitmap, CleanBitmap, PageSize, page_bits};
+use std::ops::Range;
 
 /// One bit a page in 64-bit words: page `n` is bit `n % 64` of word `n / 64`.
 #[derive(Drop)]
@@ -79,6 +80,14 @@ impl<'a> AtomicBitmap<'a> {
     {
         let extent = self.extent();
         page_bits::put(self.map, extent, index, false)
+    }
+
+    /// The pages that `mark_dirty` would make dirty, of `len` bytes from `start_addr` on.
+    pub fn page_range(&self, start_addr: usize, len: usize) -> Range<usize>
+        ensures within { result.end ≤ (tracked self.now).count }
+        ensures pages { (n : ℕ) → reaches (tracked self.now) start_addr len n ≡ (nat_le result.start n && nat_lt n result.end) }
+    {
+        self.extent().page_range(self.len(), start_addr, len)
     }
 
     /// Clears all bits.

@@ -39,6 +39,7 @@ fn number_of(data: &[u8]) -> u64
     requires { length data.now ≤ 8 }
     ensures { result ≡ number_of data.now }
 {
+    // There is no heap here, and no number has more bytes.
     let mut bytes = [0; 8];
     bytes[0..data.len()].copy_from_slice(data);
     u64::from_le_bytes(bytes)

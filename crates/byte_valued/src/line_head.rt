@@ -5,6 +5,7 @@ ghost use Rattle.std.proofs.Common.{arith, rules};
 ghost use Rattle.byte_valued.specs.HeadLaws.{parts};
 
 use crate::{ByteValued, lay};
+use std::fmt;
 
 /// Where a line of a parish register stands: the register, its leaf, the line on it, and the line's left edge and width.
 #[derive(Clone, Copy, PartialEq, Eq, Debug)]
@@ -14,6 +15,20 @@ pub struct LineHead {
     pub line: u16,
     pub left: u16,
     pub width: u16,
+}
+
+// Its five numbers.
+impl fmt::Display for LineHead {
+    fn fmt<W: fmt::Write>(&self, f: &mut fmt::Formatter<W>) -> fmt::Result {
+        let LineHead {
+            register,
+            leaf,
+            line,
+            left,
+            width,
+        } = *self;
+        write!(f, "{register} {leaf} {line} {left} {width}")
+    }
 }
 
 // Twelve bytes: the fields in their order, each by its own bytes.

@@ -54,6 +54,10 @@ taken b memory room =
     (cond (nat_lt room (length (due b memory))) (refuses (no_room (min (length (due b memory)) top)))
     (gives (due b memory)))
 
+-- how many bytes the parcel has that taking would write, as far as 64 bits tell it
+abbrev pub parcel_len : Meaning → List ℕ → Answer ℕ
+parcel_len b memory = cond (covered b memory) (gives (min (length (due b memory)) top)) (refuses (uncovered (pages (length memory) b.page) b.count))
+
 -- the bitmap after a parcel was taken: the pages of the memory are clean
 unfoldable pub swept : Meaning → List ℕ → Meaning
 swept b memory = with_bits b (λ n. cond (nat_lt n (pages (length memory) b.page)) false (b.bit n))

@@ -14,4 +14,4 @@ mod taking;
 
 pub use applying::apply;
 pub use contents::{Contents, inspect, page_number};
-pub use taking::{Taken, take};
+pub use taking::{Taken, parcel_len, take};

@@ -1,7 +1,7 @@
 //! Taking a parcel.
 ghost use Rattle.std.specs.Prelude.{◌≡◌, length};
 ghost use Rattle.volatile_memory.specs.Faults.{said};
-ghost use Rattle.parcel.specs.Parcels.{dirty_pages, taken};
+ghost use Rattle.parcel.specs.Parcels.{dirty_pages, taken, parcel_len};
 ghost use Rattle.parcel.specs.Outcomes.{told, filled, left};
 
 use crate::dirty_pages::DirtyPages;
@@ -30,6 +30,15 @@ fn lay_dirty<B: CleanBitmap>(memory: &[u8], bitmap: &B, buf: &mut [u8]) -> Resul
     }
     pages.lay_parcel(buf, taken.pages);
     Ok(taken)
+}
+
+/// How many bytes the parcel of the dirty pages of `memory` has, as far as a number can tell it.
+pub fn parcel_len<B: CleanBitmap>(memory: &[u8], bitmap: &B) -> Result<usize, Error>
+    ensures { said (λ n. n) result ≡ parcel_len (B.Bitmap.means bitmap.now) memory.now }
+{
+    let pages = DirtyPages { memory, bitmap };
+    pages.check_cover()?;
+    Ok(pages.measure().length)
 }
 
 /// Writes the dirty pages of `memory` to the start of `buf` as a parcel, and makes them clean.
