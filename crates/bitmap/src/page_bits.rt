@@ -1,4 +1,5 @@
 //! One bit a page, in words that are lent: page `n` is bit `n % w` of word `n / w`, where a word has `w` bits.
+// Words and extent go apart: of a `&mut` in a struct in a bitmap, the lender learns nothing when it comes back.
 ghost use Rattle.std.specs.Prelude.{◌≡◌, ◌*◌, length};
 ghost use Rattle.bitmap.specs.Pages.{page_count, dirty, assigned, assigned_page};
 ghost use Rattle.bitmap.specs.Tracked.{over_words};

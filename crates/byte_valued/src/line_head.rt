@@ -17,6 +17,9 @@ pub struct LineHead {
     pub width: u16,
 }
 
+// How many bytes it has.
+const SIZE: usize = 12;
+
 // Its five numbers.
 impl fmt::Display for LineHead {
     fn fmt<W: fmt::Write>(&self, f: &mut fmt::Formatter<W>) -> fmt::Result {
@@ -63,7 +66,7 @@ impl ByteValued for LineHead {
         (record { register = r; leaf = f; line = n; left = l; width = w }, parts bs _ _ _ _ _ is register leaf line left width) };
 
     fn size_of() -> usize {
-        12
+        SIZE
     }
 
     fn zeroed() -> LineHead {
@@ -77,7 +80,7 @@ impl ByteValued for LineHead {
     }
 
     fn from_slice(data: &[u8]) -> Option<LineHead> {
-        if data.len() != 12 {
+        if data.len() != SIZE {
             return None;
         }
         let register = u32::from_slice(&data[0..4])?;
