@@ -9,13 +9,13 @@ pub fn page_size(bytes: usize) -> Result<PageSize, Fail> {
 }
 
 // The dirty pages of a bitmap as the bits of a number, page 0 the lowest.
-fn pages<B: CleanBitmap>(b: &B) -> u64 {
+fn pages<B: CleanBitmap>(bitmap: &B) -> u64 {
     let mut found = 0;
     for n in 0..64usize {
         let at = n
-            .wrapping_mul(b.page_size().get())
-            .wrapping_sub(b.mark_base());
-        if n < b.page_count() && b.dirty_at(at) {
+            .wrapping_mul(bitmap.page_size().get())
+            .wrapping_sub(bitmap.mark_base());
+        if n < bitmap.page_count() && bitmap.dirty_at(at) {
             found |= 1 << n;
         }
     }
@@ -72,24 +72,24 @@ fn a_line_head_is_twelve_bytes(rt: HostRuntime) {
 fn ranges_of_an_atomic_bitmap(rt: HostRuntime) -> Result<(), Fail> {
     let page = page_size(128)?;
     let mut words = [!0; 2];
-    let mut b = AtomicBitmap::new(1024, page, &mut words);
-    assert_eq!(rt; (b.len(), b.byte_size(), pages(&b)), (8, 1024, 0));
-    b.set_addr_range(128, 129);
-    assert_eq!(rt; pages(&b), 0b0000_0110);
+    let mut bitmap = AtomicBitmap::new(1024, page, &mut words);
+    assert_eq!(rt; (bitmap.len(), bitmap.byte_size(), pages(&bitmap)), (8, 1024, 0));
+    bitmap.set_addr_range(128, 129);
+    assert_eq!(rt; pages(&bitmap), 0b0000_0110);
     assert!(rt;
-        !b.is_addr_set(127) && b.is_addr_set(128) && b.is_addr_set(383) && !b.is_addr_set(384)
+        !bitmap.is_addr_set(127) && bitmap.is_addr_set(128) && bitmap.is_addr_set(383) && !bitmap.is_addr_set(384)
     );
-    b.set_bit(7);
-    b.set_bit(8);
-    assert_eq!(rt; pages(&b), 0b1000_0110);
-    b.reset_bit(2);
-    b.reset_addr_range(0, 200);
-    assert_eq!(rt; pages(&b), 0b1000_0000);
-    b.set_addr_range(usize::MAX - 10, 100);
-    b.set_addr_range(5, 0);
-    assert_eq!(rt; pages(&b), 0b1000_0000);
-    b.set_addr_range(600, usize::MAX);
-    assert_eq!(rt; pages(&b), 0b1111_0000);
+    bitmap.set_bit(7);
+    bitmap.set_bit(8);
+    assert_eq!(rt; pages(&bitmap), 0b1000_0110);
+    bitmap.reset_bit(2);
+    bitmap.reset_addr_range(0, 200);
+    assert_eq!(rt; pages(&bitmap), 0b1000_0000);
+    bitmap.set_addr_range(usize::MAX - 10, 100);
+    bitmap.set_addr_range(5, 0);
+    assert_eq!(rt; pages(&bitmap), 0b1000_0000);
+    bitmap.set_addr_range(600, usize::MAX);
+    assert_eq!(rt; pages(&bitmap), 0b1111_0000);
     assert_eq!(rt;
         words,
         [0b1111_0000, 0],
@@ -102,17 +102,17 @@ fn ranges_of_an_atomic_bitmap(rt: HostRuntime) -> Result<(), Fail> {
 fn a_slice_at_the_top_wraps_its_start_only(rt: HostRuntime) -> Result<(), Fail> {
     let page = page_size(128)?;
     let mut words = [0];
-    let mut s = AtomicBitmap::new(1025, page, &mut words).slice_at(usize::MAX);
-    assert_eq!(rt; s.page_count(), 9);
-    s.mark_dirty(1, 1);
-    s.mark_dirty(0, 2);
-    assert_eq!(rt; pages(&s), 1);
-    assert!(rt; s.dirty_at(1) && !s.dirty_at(0));
-    let mut t = s.slice_at(300);
-    t.mark_dirty(0, 1);
-    assert_eq!(rt; (pages(&t), t.mark_base()), (0b101, 299));
-    t.reset_addr_range(0, 1);
-    assert_eq!(rt; pages(&t), 1);
+    let mut slice = AtomicBitmap::new(1025, page, &mut words).slice_at(usize::MAX);
+    assert_eq!(rt; slice.page_count(), 9);
+    slice.mark_dirty(1, 1);
+    slice.mark_dirty(0, 2);
+    assert_eq!(rt; pages(&slice), 1);
+    assert!(rt; slice.dirty_at(1) && !slice.dirty_at(0));
+    let mut inner = slice.slice_at(300);
+    inner.mark_dirty(0, 1);
+    assert_eq!(rt; (pages(&inner), inner.mark_base()), (0b101, 299));
+    inner.reset_addr_range(0, 1);
+    assert_eq!(rt; pages(&inner), 1);
     Ok(())
 }
 
@@ -131,9 +131,9 @@ fn a_log_keeps_its_bytes(rt: HostRuntime) {
 fn few_words_make_few_pages(rt: HostRuntime) -> Result<(), Fail> {
     let page = page_size(1)?;
     let mut words = [0];
-    let mut b = AtomicBitmap::new(1000, page, &mut words);
-    assert_eq!(rt; b.len(), 64);
-    b.mark_dirty(60, 100);
+    let mut bitmap = AtomicBitmap::new(1000, page, &mut words);
+    assert_eq!(rt; bitmap.len(), 64);
+    bitmap.mark_dirty(60, 100);
     assert_eq!(rt; words, [0xf000_0000_0000_0000]);
     Ok(())
 }

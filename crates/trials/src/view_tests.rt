@@ -1,7 +1,7 @@
 //! Views of a root of 10,000 bytes at the address 4096, with three pages of 4096.
 use crate::tests::page_size;
 use bitmap::AtomicBitmap;
-use byte_valued::{ByteValued, LineHead};
+use byte_valued::LineHead;
 use std::alloc::{AllocError, Global};
 use std::test::Fail;
 use volatile_memory::{Error, VolatileArrayRef, VolatileRef, VolatileSlice};
@@ -144,7 +144,13 @@ fn elements_are_copied(rt: HostRuntime) -> Result<(), Fail> {
     };
     let view = root.subslice(4080, 100)?;
     view.copy_from(&mut memory, &mut bitmap, &[head; 9])?;
-    let mut heads = [LineHead::zeroed(); 9];
+    let mut heads = [LineHead {
+        register: 0,
+        leaf: 0,
+        line: 0,
+        left: 0,
+        width: 0,
+    }; 9];
     assert_eq!(rt; view.copy_to(&memory, &mut heads), Ok(8));
     assert_eq!(rt; heads[7], head);
     assert_eq!(rt; heads[8].register, 0);

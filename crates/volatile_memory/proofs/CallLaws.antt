@@ -59,7 +59,9 @@ module _ (v : Span) (m : List ℕ) (at : ℕ × ℕ) where
     | inr e ↦
         let held : gives 0 ≡ in_memory v (length m) = sym (cond-false _ _ _ e) in
         let both : ◌≡◌ {A = List ℕ × (ℕ × ℕ)} (bs, p) (part m v.start v.size, (at.0, v.start + at.1)) = let it = is ∙ cond-false _ _ _ e in cc in
-        let same : bs ≡ part m v.start v.size = ap (λ q. q.0) both in (held, same, ap length same ∙ length_part m v.start v.size (found_in_memory v (length m) held))
+        let same : bs ≡ part m v.start v.size = ap (λ q. q.0) both in
+        let all : length (part m v.start v.size) ≡ v.size = omega (arith, length_part m v.start v.size, found_in_memory v (length m) held) in
+        (held, same, ap length same ∙ all)
   ]
 
   -- a part of it lies in the memory from the view's start on

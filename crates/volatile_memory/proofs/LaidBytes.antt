@@ -6,11 +6,6 @@ use Rattle.std.proofs.lemmas.Bool.{cases_lt}
 use Rattle.std.specs.List.{AllByRecursion, copy_within}
 use Rattle.volatile_memory.specs.Memory.{part, overlaid, joined, elements}
 
--- nothing laid is nothing changed
-pub overlaid_nil : {X : Type 0} (xs : List X) → overlaid xs 0 [] ≡ xs
-unfolding overlaid
-overlaid_nil xs = refl
-
 -- a part of a slice written whole
 pub overlaid_put : {X : Type 0} (xs ys : List X) (i k : ℕ) → length ys ≡ k → put_mid i k xs ys ≡ overlaid xs i ys
 unfolding overlaid
@@ -26,10 +21,10 @@ pub part_of : {X : Type 0} (xs : List X) (i k : ℕ) → take (i + k - i) (drop 
 unfolding part
 part_of xs i k = let e : i + k - i ≡ k = omega arith in rw e
 
--- how long it is, where it lies within
-pub length_part : {X : Type 0} (xs : List X) (i k : ℕ) → i + k ≤ length xs → length (part xs i k) ≡ k
+-- how long it is
+pub length_part : {X : Type 0} (xs : List X) (i k : ℕ) → length (part xs i k) ≡ min k (length xs - i)
 unfolding part
-length_part xs i k fits = simp (length-take, length-drop) (omega arith)
+length_part xs i k = simp (length-take, length-drop)
 
 -- a part of a part
 pub part-part : {X : Type 0} (xs : List X) (s n i k : ℕ) → i + k ≤ n → part (part xs s n) i k ≡ part xs (s + i) k
@@ -66,6 +61,10 @@ pub overlaid_none : {X : Type 0} (xs : List X) (i : ℕ) → overlaid xs i [] �
 unfolding overlaid
 overlaid_none xs i = let e : i + 0 ≡ i = omega arith in rw e (take-append-drop i xs)
 
+-- and none at the start
+pub overlaid_nil : {X : Type 0} (xs : List X) → overlaid xs 0 [] ≡ xs
+overlaid_nil xs = overlaid_none xs 0
+
 -- as many bytes as there are
 pub overlaid-whole : {X : Type 0} (xs ys : List X) → length ys ≡ length xs → overlaid xs 0 ys ≡ ys
 unfolding overlaid
@@ -89,7 +88,7 @@ pub joined_push : (xss : List (List ℕ)) (ys : List ℕ) → joined (xss ++ (ys
 joined_push [] ys = append-nil ys
 joined_push (xs ∷ xss) ys = ap (λ n. xs ++ n) (joined_push xss ys) ∙ sym (append_assoc xs (joined xss) ys)
 
--- pieces of one length
+-- pieces of one length, each by what it was made of
 pub length-joined : {X : Type 0} (f : X → List ℕ) (z : ℕ) → ((x : X) → length (f x) ≡ z) → (xs : List X) → length (joined (map f xs)) ≡ length xs * z
 length-joined f z each [] = sym (zero-mul z)
 length-joined f z each (x ∷ xs) = length-append (f x) (joined (map f xs)) ∙ rw (each x, length-joined f z each xs) (omega (arith, suc-mul (length xs) z))

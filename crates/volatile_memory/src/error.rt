@@ -4,21 +4,21 @@ ghost use Rattle.volatile_memory.specs.Faults.{rule_number};
 
 use std::fmt;
 
-/// A rule that a parcel breaks, in the order in which they are looked at.
+/// A rule that a parcel breaks, with its number: they are looked at in this order.
 #[derive(Clone, Copy, PartialEq, Eq, Debug)]
 pub enum Rule {
     /// The parcel is shorter than its head.
-    ShortHead,
+    ShortHead = 1,
     /// The page size is 0.
-    NoPageSize,
+    NoPageSize = 2,
     /// The memory's length is not the copy's.
-    OtherLength,
+    OtherLength = 3,
     /// There are more pages than the memory has, or than the parcel has room for numbers of.
-    TooManyPages,
+    TooManyPages = 4,
     /// A page number is that of no page, or not above the one before.
-    WrongPage,
+    WrongPage = 5,
     /// The parcel's length is not what its pages come to.
-    WrongLength,
+    WrongLength = 6,
 }
 
 impl Rule {
@@ -26,14 +26,7 @@ impl Rule {
     pub fn number(self) -> usize
         ensures { result ≡ rule_number self }
     {
-        match self {
-            Rule::ShortHead => 1,
-            Rule::NoPageSize => 2,
-            Rule::OtherLength => 3,
-            Rule::TooManyPages => 4,
-            Rule::WrongPage => 5,
-            Rule::WrongLength => 6,
-        }
+        self as usize
     }
 }
 

@@ -10,6 +10,6 @@ mod cuts;
 #[derive(Clone, Copy)]
 pub struct VolatileArrayRef<T: ByteValued> {
     pub(crate) slice: VolatileSlice,
-    // A value of the kind, which nothing reads.
+    // A value of the kind, which nothing reads. A rule of the project: a view is plain numbers, so this stands in the place of a marker.
     pub(crate) kind: T,
 }

@@ -9,6 +9,6 @@ mod cuts;
 #[derive(Clone, Copy)]
 pub struct VolatileRef<T: ByteValued> {
     pub(crate) slice: VolatileSlice,
-    // A value of the kind, which nothing reads.
+    // A value of the kind, which nothing reads. A rule of the project: a view is plain numbers, so this stands in the place of a marker.
     pub(crate) kind: T,
 }

@@ -15,6 +15,7 @@ pub struct VolatileSlice {
     pub(crate) addr: usize,
     pub(crate) start: usize,
     pub(crate) size: usize,
+    // Always `start`, yet stored: a rule of the project counts the mark base among a view's numbers.
     pub(crate) mark: usize,
     ghost ends: { addr + start + size < 2 ^ 64 },
     ghost marks: { mark ≡ start },

@@ -9,11 +9,21 @@ use crate::{Error, VolatileRef, VolatileSlice};
 use byte_valued::ByteValued;
 
 impl<T: ByteValued> VolatileArrayRef<T> {
+    // The elements whose bytes are those of `slice`.
+    pub(crate) fn new(slice: VolatileSlice) -> VolatileArrayRef<T>
+        ensures { span result.slice ≡ span slice }
+    {
+        VolatileArrayRef {
+            slice,
+            kind: T::zeroed(),
+        }
+    }
+
     /// How many elements it has.
     pub fn len(&self) -> usize
         ensures { result ≡ count (span self.now.slice) T.ByteValued.size }
     {
-        self.to_slice().element_count::<T>()
+        self.slice.element_count::<T>()
     }
 
     /// Whether it has no elements.

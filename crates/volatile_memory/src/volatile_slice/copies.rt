@@ -42,7 +42,8 @@ impl VolatileSlice {
         Ok(())
     }
 
-    /// Copies as many elements as the view has, and `buf` has room for, to the start of `buf`, and answers how many. The rest of `buf` stays.
+    /// Copies as many elements as the view has, and `buf` has room for, to the start of `buf`, and answers how many.
+    /// The rest of `buf` stays.
     pub fn copy_to<T: ByteValued>(&self, memory: &[u8], buf: &mut [T]) -> Result<usize, Error>
         ensures answer { said (λ k. k) result ≡ copies (span self.now) (length memory.now) T.ByteValued.size (length buf.old) }
         ensures after { buf.new ≡ copied T.ByteValued.value (span self.now) memory.now T.ByteValued.size buf.old }

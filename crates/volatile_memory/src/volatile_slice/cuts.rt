@@ -34,8 +34,8 @@ impl VolatileSlice {
         self.size
     }
 
-    // How many elements of the kind `T` it has room for.
-    pub(crate) fn element_count<T: ByteValued>(&self) -> usize
+    /// How many elements of the kind `T` it has room for.
+    pub fn element_count<T: ByteValued>(&self) -> usize
         ensures { result ≡ count (span self.now) T.ByteValued.size }
     {
         self.len() / T::size_of()
@@ -136,9 +136,6 @@ impl VolatileSlice {
             .filter(|&nbytes| nbytes <= MAX_ARRAY)
             .ok_or(Error::TooBig { nelements: n, size })?;
         let slice = self.subslice(offset, nbytes)?;
-        Ok(VolatileArrayRef {
-            slice,
-            kind: T::zeroed(),
-        })
+        Ok(VolatileArrayRef::new(slice))
     }
 }

@@ -63,7 +63,8 @@ impl VolatileSlice {
         ensures did { Did (write_slice (span self.now) (length memory.old) (T.ByteValued.bytes value) addr) memory.old memory.new (B.Bitmap.means bitmap.old) (B.Bitmap.means bitmap.new) }
         ensures lent { B.Bitmap.lent bitmap.new ≡ B.Bitmap.lent bitmap.old }
     {
-        // A write may end within the element, so its bytes are laid aside first: there is no heap here, and no array is as long as `T::size_of()` says.
+        // A write may end within the element, so its bytes are laid aside first: there is no heap here, and no array is
+        // as long as `T::size_of()` says.
         let mut bytes = [0; MAX_ELEMENT];
         value.write_to(&mut bytes).unwrap();
         self.write_slice(memory, bitmap, &bytes[0..T::size_of()], addr)

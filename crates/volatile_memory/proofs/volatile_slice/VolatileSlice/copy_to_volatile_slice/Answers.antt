@@ -27,7 +27,7 @@ returns g c =
     let held = found_in_memory (span u) (length c.args.memory.now) c.in_ok-check_memory.ensures in
     let start : v.start + 0 ≡ v.start = omega arith in
     let mark : wrapped v.mark 0 ≡ v.mark = omega (arith, v.ends, v.marks) in
-    let long : length (part c.args.memory.now u.start (min u.size v.size)) ≡ min u.size v.size = length_part c.args.memory.now u.start (min u.size v.size) (omega arith) in
+    let long : length (part c.args.memory.now u.start (min u.size v.size)) ≡ min u.size v.size = omega (arith, length_part c.args.memory.now u.start (min u.size v.size)) in
     rw e (record {
       answer = refl;
       did = (rw (start, ← c.min-count.ensures) (c.copy_within.ensures.after ∙ moved c.args.memory.now u.start c.min-count.result v.start (omega arith)), rw (mark, long, ← c.min-count.ensures) c.mark_dirty.ensures.marks);
