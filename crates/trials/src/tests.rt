@@ -73,11 +73,17 @@ fn ranges_of_an_atomic_bitmap(rt: HostRuntime) -> Result<(), Fail> {
     let page = page_size(128)?;
     let mut words = [!0; 2];
     let mut bitmap = AtomicBitmap::new(1024, page, &mut words);
-    assert_eq!(rt; (bitmap.len(), bitmap.byte_size(), pages(&bitmap)), (8, 1024, 0));
+    assert_eq!(rt;
+        (bitmap.len(), bitmap.byte_size(), pages(&bitmap)),
+        (8, 1024, 0)
+    );
     bitmap.set_addr_range(128, 129);
     assert_eq!(rt; pages(&bitmap), 0b0000_0110);
     assert!(rt;
-        !bitmap.is_addr_set(127) && bitmap.is_addr_set(128) && bitmap.is_addr_set(383) && !bitmap.is_addr_set(384)
+        !bitmap.is_addr_set(127)
+            && bitmap.is_addr_set(128)
+            && bitmap.is_addr_set(383)
+            && !bitmap.is_addr_set(384)
     );
     bitmap.set_bit(7);
     bitmap.set_bit(8);
