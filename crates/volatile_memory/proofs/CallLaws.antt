@@ -39,10 +39,9 @@ module _ {X : Type 0} (v : Span) (memory : ℕ) (rest : Answer X) where
     | inr e ↦ let clash = is ∙ cond-false _ _ _ e in cc
   ]
 
-  -- a memory that holds the view is answered as one that just holds it
-  pub held_first : gives 0 ≡ in_memory v memory → checked v (v.start + v.size) rest ≡ checked v memory rest
-  held_first is =
-      cond-false _ _ _ (le-ltb (v.start + v.size) (v.start + v.size) (omega arith)) ∙ sym (cond-false _ _ _ (le-ltb memory (v.start + v.size) (found_in_memory v memory is)))
+  -- a memory that holds the view is refused for nothing of its own
+  pub held_first : gives 0 ≡ in_memory v memory → rest ≡ checked v memory rest
+  held_first is = sym (cond-false _ _ _ (le-ltb memory (v.start + v.size) (found_in_memory v memory is)))
 
 module _ (v : Span) (m : List ℕ) (at : ℕ × ℕ) where
   -- a guard is refused as the memory is
@@ -71,7 +70,7 @@ module _ (v : Span) (m : List ℕ) (at : ℕ × ℕ) where
       ap (λ xs. part xs o k) same ∙ part-part m v.start v.size o k fits
 
   -- an element of it, where a check found it within
-  pub element_given : {X : Type 0} (bs : List ℕ) (p : ℕ × ℕ) (value : List ℕ → X) (o z k : ℕ) (rest : Answer ℕ) → gives (bs, p) ≡ guards v m at → gives k ≡ checked v (v.start + v.size) rest → o + z ≤ v.size → gives (value (part bs o z)) ≡ loads (checked v (length m) rest) (value (part m (v.start + o) z))
+  pub element_given : {X : Type 0} (bs : List ℕ) (p : ℕ × ℕ) (value : List ℕ → X) (o z k : ℕ) (rest : Answer ℕ) → gives (bs, p) ≡ guards v m at → gives k ≡ rest → o + z ≤ v.size → gives (value (part bs o z)) ≡ loads (checked v (length m) rest) (value (part m (v.start + o) z))
   element_given bs p value o z k rest is given fits =
       let (held, same, long) = guarded bs p is in
       ap (λ xs. gives (value xs)) (part_guarded bs p o z is fits) ∙ ap (λ a. loads a (value (part m (v.start + o) z))) (given ∙ held_first v (length m) rest held)
@@ -80,12 +79,12 @@ module _ (v : Span) (m : List ℕ) (at : ℕ × ℕ) where
 pub moved_fits : (v : Span) (memory n addr k : ℕ) → gives k ≡ moves v memory n addr → 0 < k → (addr + k ≤ v.size) × (v.start + v.size ≤ memory) × (k ≤ n)
 moved_fits v memory n addr k is some = grind (arith, nat_tests)
 
--- an atomic access is within the view
-pub atomic_fits : (v : Span) (memory z addr : ℕ) → gives 0 ≡ atomic_at v memory z addr → addr + z ≤ v.size
+-- an atomic access is within the memory
+pub atomic_fits : (v : Span) (memory z addr : ℕ) → gives 0 ≡ atomic_at v memory z addr → v.start + addr + z ≤ memory
 atomic_fits v memory z addr is = grind (arith, nat_tests)
 
--- a reference's element is within its view
-pub room_fits : (v : Span) (memory z : ℕ) → gives 0 ≡ reference_at v memory z → 0 + z ≤ v.size
+-- a reference's element is within the memory
+pub room_fits : (v : Span) (memory z : ℕ) → gives 0 ≡ reference_at v memory z → v.start + z ≤ memory
 room_fits v memory z is = grind (arith, nat_tests)
 
 module _ (v : Span) (memory : ℕ) (buf : List ℕ) (addr : ℕ) where
@@ -102,7 +101,7 @@ module _ (v : Span) (memory : ℕ) (buf : List ℕ) (addr : ℕ) where
   write_some k is some = ap (laid_at v buf addr) (sym is) ∙ cond-false (eqb k 0) _ _ (ne_eqb k 0 (omega arith))
 
 -- where all that was asked for is moved, all of it fits
-pub whole_fits : (v : Span) (memory n addr k : ℕ) → gives k ≡ moves v memory n addr → gives 0 ≡ whole n (gives k) → 0 < n → addr + n ≤ v.size
+pub whole_fits : (v : Span) (memory n addr k : ℕ) → gives k ≡ moves v memory n addr → gives 0 ≡ whole n (gives k) → 0 < n → v.start + addr + n ≤ memory
 whole_fits v memory n addr k is all some = grind (arith, nat_tests)
 
 module _ (v : Span) (memory buf : List ℕ) (addr : ℕ) where

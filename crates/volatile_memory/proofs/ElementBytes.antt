@@ -3,12 +3,11 @@ use Rattle.std.proofs.Common.{◌≡◌, ℕ, ◌+◌, ◌-◌, ◌≤◌, eqb, 
 use Rattle.std.proofs.lemmas.List.{drop_all, take_at}
 use Rattle.std.proofs.lemmas.Bool.{cases_Bool, cond-true, cond-false, le-leb}
 use Rattle.byte_valued.specs.Buffers.{laid, made_of}
-use Rattle.volatile_memory.specs.Calls.{Done, only, lays, in_memory, unless_refused}
+use Rattle.volatile_memory.specs.Calls.{only, lays, unless_refused}
 use Rattle.volatile_memory.specs.Faults.{Fault, Answer}
 use Rattle.volatile_memory.specs.Faults.Answer.{gives, refuses}
 use Rattle.volatile_memory.specs.Memory.{part}
 use Rattle.volatile_memory.specs.Spans.{Span}
-use Rattle.volatile_memory.proofs.CallLaws.{checked, foreign_first, held_first}
 use Rattle.volatile_memory.proofs.LaidBytes.{part_of}
 
 -- a value that was made is the one of the bytes
@@ -32,16 +31,10 @@ laid_start bs buf k room is =
     let all : k - 0 ≡ k = omega arith in
     rw all (ap (take k) (cond-true _ _ _ (le-leb _ _ room)) ∙ take_at bs (drop (length bs) buf) k is)
 
--- an element that is stored, where the memory is looked at first, and then the view
-module _ (v : Span) (memory o : ℕ) (bs : List ℕ) (rest : Answer ℕ) where
-  abbrev stored : Done
-  stored = unless_refused v o bs (checked v memory rest)
+-- an element that is stored, unless a check refuses it
+module _ (v : Span) (o : ℕ) (bs : List ℕ) (check : Answer ℕ) where
+  pub store_refused : (f : Fault) → refuses f ≡ check → unless_refused v o bs check ≡ only (refuses f)
+  store_refused f is = ap (unless_refused v o bs) (sym is)
 
-  pub store_foreign : (f : Fault) → refuses f ≡ in_memory v memory → stored ≡ only (refuses f)
-  store_foreign f is = ap (unless_refused v o bs) (sym (foreign_first v memory rest f is))
-
-  pub store_refused : (f : Fault) → gives 0 ≡ in_memory v memory → refuses f ≡ checked v (v.start + v.size) rest → stored ≡ only (refuses f)
-  store_refused f held is = ap (unless_refused v o bs) (sym (is ∙ held_first v memory rest held))
-
-  pub store-lays : gives 0 ≡ in_memory v memory → gives 0 ≡ checked v (v.start + v.size) rest → stored ≡ lays v o bs (gives 0)
-  store-lays held is = ap (unless_refused v o bs) (sym (is ∙ held_first v memory rest held))
+  pub store-lays : gives 0 ≡ check → unless_refused v o bs check ≡ lays v o bs (gives 0)
+  store-lays is = ap (unless_refused v o bs) (sym is)

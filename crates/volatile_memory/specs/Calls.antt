@@ -72,9 +72,13 @@ reference_at v memory z = cond (nat_lt memory (v.start + v.size)) (refuses (fore
 unfoldable pub store_ref : Span → ℕ → List ℕ → Done
 store_ref v memory bs = unless_refused v 0 bs (reference_at v memory (length bs))
 
+-- an array of elements of size z has an element i
+abbrev pub has_element : Span → ℕ → ℕ → Answer ℕ
+has_element v z i = cond (nat_lt i (count v z)) (gives 0) (refuses (no_element i (count v z)))
+
 -- element i of an array of elements of size z
 abbrev pub element_at : Span → ℕ → ℕ → ℕ → Answer ℕ
-element_at v memory z i = cond (nat_lt memory (v.start + v.size)) (refuses (foreign (v.start + v.size) memory)) (cond (nat_lt i (count v z)) (gives 0) (refuses (no_element i (count v z))))
+element_at v memory z i = cond (nat_lt memory (v.start + v.size)) (refuses (foreign (v.start + v.size) memory)) (has_element v z i)
 
 unfoldable pub store_at : Span → ℕ → ℕ → ℕ → List ℕ → Done
 store_at v memory z i bs = unless_refused v (i * z) bs (element_at v memory z i)

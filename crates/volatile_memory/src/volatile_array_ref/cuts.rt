@@ -1,6 +1,6 @@
 //! An array as a view, and its elements.
 ghost use Rattle.std.specs.Prelude.{◌≡◌, ◌+◌, ◌*◌, ◌≤◌, ◌==◌, IfOk};
-ghost use Rattle.volatile_memory.specs.Calls.{element_at};
+ghost use Rattle.volatile_memory.specs.Calls.{has_element};
 ghost use Rattle.volatile_memory.specs.Faults.{said};
 ghost use Rattle.volatile_memory.specs.Spans.{span, count, cut_element};
 
@@ -49,7 +49,7 @@ impl<T: ByteValued> VolatileArrayRef<T> {
 
     // Where element `index` starts in the array. Refuses one that it does not have.
     pub(super) fn element_offset(&self, index: usize) -> Result<usize, Error>
-        ensures answer { said (λ _. 0) result ≡ element_at (span self.now.slice) (self.now.slice.start + self.now.slice.size) T.ByteValued.size index }
+        ensures answer { said (λ _. 0) result ≡ has_element (span self.now.slice) T.ByteValued.size index }
         ensures made { IfOk result (λ o. (o ≡ index * T.ByteValued.size) × (o + T.ByteValued.size ≤ self.now.slice.size)) }
     {
         let count = self.len();

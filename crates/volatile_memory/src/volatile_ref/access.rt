@@ -12,10 +12,11 @@ use bitmap::Bitmap;
 use byte_valued::ByteValued;
 
 impl<T: ByteValued> VolatileRef<T> {
-    // Refuses a view that has no room for the element.
-    fn check_room(&self) -> Result<(), Error>
-        ensures { said (λ _. 0) result ≡ reference_at (span self.now.slice) (self.now.slice.start + self.now.slice.size) T.ByteValued.size }
+    // Refuses a view that has no room for the element, in a memory of `length` bytes.
+    fn check_room(&self, length: usize) -> Result<(), Error>
+        ensures { said (λ _. 0) result ≡ reference_at (span self.now.slice) length T.ByteValued.size }
     {
+        self.slice.check_memory(length)?;
         let size = T::size_of();
         if size > self.slice.size {
             return Err(Error::OutOfBounds { addr: size });
@@ -29,8 +30,7 @@ impl<T: ByteValued> VolatileRef<T> {
         ensures did { Did (store_ref (span self.now.slice) (length memory.old) (T.ByteValued.bytes value)) memory.old memory.new (B.Bitmap.means bitmap.old) (B.Bitmap.means bitmap.new) }
         ensures lent { B.Bitmap.lent bitmap.new ≡ B.Bitmap.lent bitmap.old }
     {
-        self.slice.check_memory(memory.len())?;
-        self.check_room()?;
+        self.check_room(memory.len())?;
         self.slice.lay_element(memory, bitmap, 0, value);
         Ok(())
     }
@@ -39,9 +39,8 @@ impl<T: ByteValued> VolatileRef<T> {
     pub fn load(&self, memory: &[u8]) -> Result<T, Error>
         ensures { said (λ x. x) result ≡ loads (reference_at (span self.now.slice) (length memory.now) T.ByteValued.size) (T.ByteValued.value (part memory.now (self.now.slice.start + 0) T.ByteValued.size)) }
     {
-        let bytes = self.slice.ptr_guard(memory)?;
-        self.check_room()?;
-        Ok(element(bytes, 0))
+        self.check_room(memory.len())?;
+        Ok(element(memory, self.slice.start))
     }
 
     /// The element's part of the memory.

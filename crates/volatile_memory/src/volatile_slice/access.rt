@@ -23,10 +23,11 @@ pub(super) fn check_whole(expected: usize, completed: usize) -> Result<(), Error
 }
 
 impl VolatileSlice {
-    // How many of `count` bytes a call at `addr` moves, in a memory that just holds the view.
-    pub(super) fn movable(&self, count: usize, addr: usize) -> Result<usize, Error>
-        ensures { said (λ k. k) result ≡ moves (span self.now) (self.now.start + self.now.size) count addr }
+    // How many of `count` bytes a call at `addr` moves, in a memory of `length` bytes.
+    pub(super) fn movable(&self, length: usize, count: usize, addr: usize) -> Result<usize, Error>
+        ensures { said (λ k. k) result ≡ moves (span self.now) length count addr }
     {
+        self.check_memory(length)?;
         if count == 0 {
             return Ok(0);
         }
@@ -67,8 +68,7 @@ impl VolatileSlice {
         ensures did { Did (write (span self.now) (length memory.old) buf.now addr) memory.old memory.new (B.Bitmap.means bitmap.old) (B.Bitmap.means bitmap.new) }
         ensures lent { B.Bitmap.lent bitmap.new ≡ B.Bitmap.lent bitmap.old }
     {
-        self.check_memory(memory.len())?;
-        let k = self.movable(buf.len(), addr)?;
+        let k = self.movable(memory.len(), buf.len(), addr)?;
         if k > 0 {
             self.lay(memory, bitmap, addr, &buf[0..k]);
         }
@@ -96,10 +96,10 @@ impl VolatileSlice {
         ensures answer { said (λ k. k) result ≡ moves (span self.now) (length memory.now) (length buf.old) addr }
         ensures after { buf.new ≡ fetched (span self.now) memory.now buf.old addr }
     {
-        let bytes = self.ptr_guard(memory)?;
-        let k = self.movable(buf.len(), addr)?;
+        let k = self.movable(memory.len(), buf.len(), addr)?;
         if k > 0 {
-            buf[0..k].copy_from_slice(&bytes[addr..addr + k]);
+            let at = self.start + addr;
+            buf[0..k].copy_from_slice(&memory[at..at + k]);
         }
         Ok(k)
     }

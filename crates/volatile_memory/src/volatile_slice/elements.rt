@@ -74,19 +74,18 @@ impl VolatileSlice {
     pub fn read_obj<T: ByteValued>(&self, memory: &[u8], addr: usize) -> Result<T, Error>
         ensures { said (λ x. x) result ≡ loads (whole T.ByteValued.size (moves (span self.now) (length memory.now) T.ByteValued.size addr)) (T.ByteValued.value (part memory.now (self.now.start + addr) T.ByteValued.size)) }
     {
-        let bytes = self.ptr_guard(memory)?;
         let size = T::size_of();
-        let completed = self.movable(size, addr)?;
+        let completed = self.movable(memory.len(), size, addr)?;
         check_whole(size, completed)?;
-        let value = element(bytes, addr);
-        Ok(value)
+        Ok(element(memory, self.start + addr))
     }
 
-    // Refuses an atomic access of `size` bytes at `addr`, in a memory that just holds the view.
-    fn check_atomic(&self, size: usize, addr: usize) -> Result<(), Error>
+    // Refuses an atomic access of `size` bytes at `addr`, in a memory of `length` bytes.
+    fn check_atomic(&self, length: usize, size: usize, addr: usize) -> Result<(), Error>
         requires { 0 < size }
-        ensures { said (λ _. 0) result ≡ atomic_at (span self.now) (self.now.start + self.now.size) size addr }
+        ensures { said (λ _. 0) result ≡ atomic_at (span self.now) length size addr }
     {
+        self.check_memory(length)?;
         self.compute_end_offset(addr, size)?;
         let address = self.addr + self.start + addr;
         if address % size != 0 {
@@ -110,8 +109,7 @@ impl VolatileSlice {
         ensures did { Did (store (span self.now) (length memory.old) (T.ByteValued.bytes value) addr) memory.old memory.new (B.Bitmap.means bitmap.old) (B.Bitmap.means bitmap.new) }
         ensures lent { B.Bitmap.lent bitmap.new ≡ B.Bitmap.lent bitmap.old }
     {
-        self.check_memory(memory.len())?;
-        self.check_atomic(T::alignment(), addr)?;
+        self.check_atomic(memory.len(), T::alignment(), addr)?;
         self.lay_element(memory, bitmap, addr, value);
         Ok(())
     }
@@ -120,8 +118,8 @@ impl VolatileSlice {
     pub fn load<T: AtomicAccess>(&self, memory: &[u8], addr: usize) -> Result<T, Error>
         ensures { said (λ x. x) result ≡ loads (atomic_at (span self.now) (length memory.now) T.ByteValued.size addr) (T.ByteValued.value (part memory.now (self.now.start + addr) T.ByteValued.size)) }
     {
-        let bytes = self.ptr_guard(memory)?;
-        self.check_atomic(T::alignment(), addr)?;
-        Ok(element(bytes, addr))
+        self.check_atomic(memory.len(), T::alignment(), addr)?;
+        let at = self.start + addr;
+        Ok(element(memory, at))
     }
 }
