@@ -3,12 +3,12 @@ use Rattle.std.proofs.Common.{◌≡◌, ℕ, ◌+◌, ◌<◌, ◌≤◌, min, 
 use Rattle.std.proofs.lemmas.Bool.{cases_Bool, le-ltb, cond-true, cond-false, ne_eqb}
 use Rattle.std.proofs.lemmas.Bool.Decides.{nat_tests}
 use Rattle.bitmap.specs.Pages.{Meaning, place, spans, assigned, marked, with_bits}
-use Rattle.volatile_memory.specs.Calls.{Done, only, lays, moves, laid_at, whole, atomic_at, reference_at, loads, guards, write, fetched, in_memory, unless_refused, copy_from, copies, copied, after_source, copy_volatile}
+use Rattle.volatile_memory.specs.Calls.{Done, only, lays, moves, laid_at, whole, atomic_at, reference_at, guards, write, fetched, in_memory, unless_refused, copy_from, copies, copied, after_source, copy_volatile}
 use Rattle.volatile_memory.specs.Faults.{Fault, Answer, foreign}
 use Rattle.volatile_memory.specs.Faults.Answer.{gives, refuses}
 use Rattle.volatile_memory.specs.Memory.{part, overlaid, joined, elements}
 use Rattle.volatile_memory.specs.Spans.{Span, count}
-use Rattle.volatile_memory.proofs.LaidBytes.{overlaid_nil, overlaid-part, length_part, part-part}
+use Rattle.volatile_memory.proofs.LaidBytes.{overlaid_nil, overlaid-part, length_part}
 
 no_page : (page count start n : ℕ) (bit : Bool) → bit ≡ cond (spans page count start 0 n) true bit
 unfolding spans
@@ -62,18 +62,6 @@ module _ (v : Span) (m : List ℕ) (at : ℕ × ℕ) where
         let all : length (part m v.start v.size) ≡ v.size = omega (arith, length_part m v.start v.size, found_in_memory v (length m) held) in
         (held, same, ap length same ∙ all)
   ]
-
-  -- a part of it lies in the memory from the view's start on
-  pub part_guarded : (bs : List ℕ) (p : ℕ × ℕ) (o k : ℕ) → gives (bs, p) ≡ guards v m at → o + k ≤ v.size → part bs o k ≡ part m (v.start + o) k
-  part_guarded bs p o k is fits =
-      let (held, same, long) = guarded bs p is in
-      ap (λ xs. part xs o k) same ∙ part-part m v.start v.size o k fits
-
-  -- an element of it, where a check found it within
-  pub element_given : {X : Type 0} (bs : List ℕ) (p : ℕ × ℕ) (value : List ℕ → X) (o z k : ℕ) (rest : Answer ℕ) → gives (bs, p) ≡ guards v m at → gives k ≡ rest → o + z ≤ v.size → gives (value (part bs o z)) ≡ loads (checked v (length m) rest) (value (part m (v.start + o) z))
-  element_given bs p value o z k rest is given fits =
-      let (held, same, long) = guarded bs p is in
-      ap (λ xs. gives (value xs)) (part_guarded bs p o z is fits) ∙ ap (λ a. loads a (value (part m (v.start + o) z))) (given ∙ held_first v (length m) rest held)
 
 -- what is moved fits
 pub moved_fits : (v : Span) (memory n addr k : ℕ) → gives k ≡ moves v memory n addr → 0 < k → (addr + k ≤ v.size) × (v.start + v.size ≤ memory) × (k ≤ n)

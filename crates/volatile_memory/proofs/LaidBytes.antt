@@ -27,7 +27,7 @@ unfolding part
 length_part xs i k = simp (length-take, length-drop)
 
 -- a part of a part
-pub part-part : {X : Type 0} (xs : List X) (s n i k : ℕ) → i + k ≤ n → part (part xs s n) i k ≡ part xs (s + i) k
+part-part : {X : Type 0} (xs : List X) (s n i k : ℕ) → i + k ≤ n → part (part xs s n) i k ≡ part xs (s + i) k
 unfolding part
 part-part xs s n i k fits =
     let more : i + (n - i) ≡ n = omega arith in

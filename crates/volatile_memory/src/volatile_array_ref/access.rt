@@ -34,8 +34,8 @@ impl<T: ByteValued> VolatileArrayRef<T> {
     pub fn load(&self, memory: &[u8], index: usize) -> Result<T, Error>
         ensures { said (λ x. x) result ≡ loads (element_at (span self.now.slice) (length memory.now) T.ByteValued.size index) (T.ByteValued.value (part memory.now (self.now.slice.start + index * T.ByteValued.size) T.ByteValued.size)) }
     {
-        let bytes = self.slice.ptr_guard(memory)?;
+        self.slice.check_memory(memory.len())?;
         let offset = self.element_offset(index)?;
-        Ok(element(bytes, offset))
+        Ok(element(memory, self.slice.start + offset))
     }
 }
