@@ -88,7 +88,7 @@ pub joined_push : (xss : List (List ℕ)) (ys : List ℕ) → joined (xss ++ (ys
 joined_push [] ys = append-nil ys
 joined_push (xs ∷ xss) ys = ap (λ n. xs ++ n) (joined_push xss ys) ∙ sym (append_assoc xs (joined xss) ys)
 
--- pieces of one length, each by what it was made of
+-- pieces of one length, each by what it was made of; by length_pieces it is no plainer, which asks for a fact of each piece of the map
 pub length-joined : {X : Type 0} (f : X → List ℕ) (z : ℕ) → ((x : X) → length (f x) ≡ z) → (xs : List X) → length (joined (map f xs)) ≡ length xs * z
 length-joined f z each [] = sym (zero-mul z)
 length-joined f z each (x ∷ xs) = length-append (f x) (joined (map f xs)) ∙ rw (each x, length-joined f z each xs) (omega (arith, suc-mul (length xs) z))
