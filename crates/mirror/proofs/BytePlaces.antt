@@ -3,11 +3,8 @@ use Rattle.std.proofs.Common.{◌≡◌, ℕ, ◌+◌, ◌-◌, ◌<◌, ◌≤�
 use Rattle.std.proofs.lemmas.List.{places, ext_get_or, get_or-take, get_or-drop}
 use Rattle.std.proofs.lemmas.Bool.Decides.{nat_tests}
 use Rattle.volatile_memory.specs.Memory.{part, overlaid}
+use Rattle.parcel.proofs.WrittenPages.{length-part}
 use Rattle.mirror.specs.Mirror.{Inside}
-
-pub length_part : (xs : List ℕ) (o k : ℕ) → length (part xs o k) ≡ min k (length xs - o)
-unfolding part
-length_part xs o k = simp (length-take, length-drop)
 
 pub get_or_part : (xs : List ℕ) (o k j : ℕ) → j < k → get_or (part xs o k) j 0 ≡ get_or xs (o + j) 0
 unfolding part
@@ -25,8 +22,8 @@ module _ (xs ys : List ℕ) (place : ℕ) (fits : place + length ys ≤ length x
 -- two parts are equal where their lengths and their bytes are
 parts_equal : (xs ys : List ℕ) (o i k : ℕ) → min k (length xs - o) ≡ min k (length ys - i) → ((j : ℕ) → j < k → get_or xs (o + j) 0 ≡ get_or ys (i + j) 0) → part xs o k ≡ part ys i k
 parts_equal xs ys o i k long each =
-    ext_get_or 0 _ _ (simp length_part long) λ j h.
-    let below : j < k = omega (arith, length_part xs o k) in
+    ext_get_or 0 _ _ (simp length-part long) λ j h.
+    let below : j < k = omega (arith, length-part xs o k) in
     rw (get_or_part xs o k j below, get_or_part ys i k j below) (each j below)
 
 module _ (xs ys : List ℕ) (place : ℕ) (fits : place + length ys ≤ length xs) (o k : ℕ) where

@@ -15,7 +15,8 @@ use Rattle.mirror.specs.Runs.{Store, Call, State, claim, does, lays_down, Rooted
 use Rattle.mirror.specs.Runs.Store.{by_write, by_write_slice, by_atomic, by_reference, by_array, by_copy_from, by_copy_within, by_copy_over}
 use Rattle.mirror.specs.Runs.Call.{stores, opens, puts, settles, takes}
 use Rattle.mirror.specs.Mirror.{Inside}
-use Rattle.mirror.proofs.BytePlaces.{length_part}
+use Rattle.parcel.proofs.Refusals.{gives-refuses}
+use Rattle.parcel.proofs.WrittenPages.{length-part}
 
 -- what is answered where bytes were stored: no refusal, but that of a partial buffer, which counts them
 pub data Stored (bs : List ℕ) : Answer ℕ → Type 0 where
@@ -37,7 +38,7 @@ inside_memory (none a) = omega arith
 inside_memory (some o bs a answers held below) = omega arith
 
 refused_partly : {bs : List ℕ} {a : Answer ℕ} → Stored bs a → (f : Fault) → a ≡ refuses f → (n : ℕ) × (f ≡ partial_buffer n (length bs))
-refused_partly (freely k) f refused = let no : ◌≡◌ {A = ℕ} 0 1 = cc in absurd (omega arith)
+refused_partly (freely k) f refused = absurd (gives-refuses refused)
 refused_partly (partly n) f refused = (n, cc)
 
 pub refused_stores : {v : Span} {n : ℕ} {d : Done} → InView v n d → (f : Fault) → d.answer ≡ refuses f → (d.bytes ≡ []) ⊎ ((k : ℕ) × (f ≡ partial_buffer k (length d.bytes)))
@@ -126,7 +127,7 @@ module _ (v : Span) (n : ℕ) where
   unfolding copy_volatile Room
   copy_volatile_view u source =
       let bs = part source u.start (min u.size v.size) in
-      after-view (in_memory u (length source)) _ (unless-view 0 bs (in_memory v n) λ k is. (grind (arith, nat_tests), omega (arith, length_part source u.start (min u.size v.size))))
+      after-view (in_memory u (length source)) _ (unless-view 0 bs (in_memory v n) λ k is. (grind (arith, nat_tests), omega (arith, length-part source u.start (min u.size v.size))))
 
 -- a store's view, which is one of a root
 abbrev pub target : Store → Span

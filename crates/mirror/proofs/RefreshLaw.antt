@@ -1,5 +1,5 @@
 -- The law of the copy at a refresh.
-use Rattle.std.proofs.Common.{◌≡◌, ℕ, ◌≤◌, List, length, sym, refl, ap, ◌∙◌, arith}
+use Rattle.std.proofs.Common.{◌≡◌, ℕ, ◌≤◌, List, length, sym, refl, ap, ◌∙◌}
 use Rattle.bitmap.specs.Pages.{Meaning}
 use Rattle.volatile_memory.specs.Faults.{Answer}
 use Rattle.volatile_memory.specs.Faults.Answer.{gives, refuses}
@@ -8,6 +8,7 @@ use Rattle.volatile_memory.specs.Calls.{loads}
 use Rattle.volatile_memory.proofs.LaidBytes.{overlaid_nil}
 use Rattle.parcel.specs.Parcels.{taken}
 use Rattle.parcel.specs.Outcomes.{left}
+use Rattle.parcel.proofs.Refusals.{gives-refuses}
 use Rattle.mirror.specs.Runs.{Run, Legal, Fits, state}
 use Rattle.mirror.specs.Mirror.{Exact, Law, load_ref, due_after, taken_after}
 use Rattle.mirror.specs.Program.{LeadsTo}
@@ -17,7 +18,7 @@ use Rattle.mirror.proofs.LawOverRuns.{law_run}
 -- what is loaded as bytes is loaded as their value
 loads_value : {X : Type 0} (value : List ℕ → X) (a : Answer ℕ) (bs es : List ℕ) → loads a bs ≡ gives es → loads a (value bs) ≡ gives (value es)
 loads_value value (gives k) bs es e = let same : bs ≡ es = cc in ap (λ b. gives (value b)) same
-loads_value value (refuses f) bs es e = let no : ◌≡◌ {A = ℕ} 0 1 = cc in absurd (omega arith)
+loads_value value (refuses f) bs es e = absurd (gives-refuses (sym e))
 
 -- a kind of element: what its bytes and values are, and its laws
 pub record Kind (X : Type 0) : Type 1 where

@@ -9,6 +9,7 @@ use Rattle.volatile_memory.specs.Spans.{Span}
 use Rattle.volatile_memory.specs.Memory.{overlaid}
 use Rattle.parcel.specs.Parcels.{dirty_pages, taken, applied, unless}
 use Rattle.parcel.specs.Outcomes.{told, filled, left, accepted, kept}
+use Rattle.parcel.proofs.Refusals.{gives-refuses}
 use Rattle.mirror.specs.Runs.{Run, Fits}
 use Rattle.mirror.specs.Mirror.{load_ref}
 use Rattle.mirror.specs.Program.{LeadsTo}
@@ -17,7 +18,7 @@ use Rattle.mirror.proofs.RefreshLaw.{Kind, law_at}
 
 -- a taking that was refused
 told_refused : (k : ℕ) (f : Fault) (t : Answer (List ℕ)) → refuses f ≡ told k t → t ≡ refuses f
-told_refused k f (gives bs) e = let no : ◌≡◌ {A = ℕ} 0 1 = cc in absurd (omega arith)
+told_refused k f (gives bs) e = absurd (gives-refuses (sym e))
 told_refused k f (refuses g) e = let same : g ≡ f = cc in ap refuses same
 
 -- a parcel of n bytes and k pages that was taken
@@ -29,7 +30,7 @@ record Given (t : Answer (List ℕ)) (k n m : ℕ) (bs : List ℕ) : Type 0 wher
 -- it lies at the buffer's start
 given : (k n m : ℕ) (t : Answer (List ℕ)) (buf buf' : List ℕ) → gives (n, m) ≡ told k t → buf' ≡ filled buf t → Given t k n m (take (n - 0) buf')
 unfolding overlaid
-given k n m (refuses f) buf buf' e b = let no : ◌≡◌ {A = ℕ} 0 1 = cc in absurd (omega arith)
+given k n m (refuses f) buf buf' e b = absurd (gives-refuses e)
 given k n m (gives bs) buf buf' e b =
     let same : ◌≡◌ {A = ℕ × ℕ} (n, m) (length bs, k) = cc in
     let long : length bs ≡ n = sym (ap (λ p. p.0) same) in
@@ -48,12 +49,12 @@ parcel_fits b memory buf buf' k n m e lies =
 
 -- an applying that was refused, and one that was not
 unapplied : {X : Type 0} (p : ℕ × ℕ) (load : List ℕ → Answer X) (copy : List ℕ) (a : Answer (List ℕ)) (f : Fault) → refuses f ≡ accepted a → refuses f ≡ both (gives p) (unless a (load (kept copy a)))
-unapplied p load copy (gives x) f e = let no : ◌≡◌ {A = ℕ} 0 1 = cc in absurd (omega arith)
+unapplied p load copy (gives x) f e = absurd (gives-refuses (sym e))
 unapplied p load copy (refuses g) f e = cc
 
 loaded : {X : Type 0} (p : ℕ × ℕ) (load : List ℕ → Answer X) (copy : List ℕ) (a : Answer (List ℕ)) → gives 0 ≡ accepted a → both (gives p) (load (kept copy a)) ≡ both (gives p) (unless a (load (kept copy a)))
 loaded p load copy (gives x) e = refl
-loaded p load copy (refuses g) e = let no : ◌≡◌ {A = ℕ} 0 1 = cc in absurd (omega arith)
+loaded p load copy (refuses g) e = absurd (gives-refuses e)
 
 module _ {X : Type 0} (k : Kind X) where
   module _ (v : Span) (memory : List ℕ) (b : Meaning) (buf copy : List ℕ) (fits : Fits memory b) (b' : Meaning) (means : b' ≡ left b memory (taken b memory (length buf))) where

@@ -7,7 +7,7 @@ use Rattle.bitmap.specs.Pages.{ceiling}
 use Rattle.volatile_memory.specs.Memory.{part, overlaid}
 use Rattle.parcel.specs.Parcels.{pages, bodies, page_length, laid_pages}
 use Rattle.parcel.proofs.PagePlaces.{page_begins}
-use Rattle.parcel.proofs.WrittenPages.{length_page}
+use Rattle.parcel.proofs.WrittenPages.{length-part}
 use Rattle.mirror.proofs.BytePlaces.{get_or_part, length-overlaid, get_or_overlaid}
 use Rattle.mirror.proofs.DirtyList.{Chain, has}
 
@@ -36,18 +36,18 @@ refreshed p memory copy qs = laid_pages copy p qs (bodies p memory qs)
 
 laid_first : (p : ℕ) (memory copy : List ℕ) (q : ℕ) (qs : List ℕ) → length memory ≡ length copy → refreshed p memory copy (q ∷ qs) ≡ refreshed p memory (with_page p memory copy q) qs
 laid_first p memory copy q qs even =
-    let long : length (part memory (q * p) p) ≡ page_length p (length copy) q = length_page memory p q ∙ ap (λ n. page_length p n q) even in
+    let long : length (part memory (q * p) p) ≡ page_length p (length copy) q = length-part memory (q * p) p ∙ ap (λ n. page_length p n q) even in
     ap₂ (λ now left. laid_pages (overlaid copy (q * p) now) p qs left) (take_at _ _ _ long) (drop_at _ _ _ long)
 
 module _ (p : ℕ) (memory : List ℕ) (paged : 0 < p) where
   length_with_page : (copy : List ℕ) (q : ℕ) → length memory ≡ length copy → q * p < length memory → length memory ≡ length (with_page p memory copy q)
   length_with_page copy q even begins =
-      let long = length_page memory p q in even ∙ sym (length-overlaid copy (part memory (q * p) p) (q * p) (omega arith))
+      let long = length-part memory (q * p) p in even ∙ sym (length-overlaid copy (part memory (q * p) p) (q * p) (omega arith))
 
   get_or_with_page : (copy : List ℕ) (q x : ℕ) → length memory ≡ length copy → q * p < length memory → x < length memory
       → get_or (with_page p memory copy q) x 0 ≡ cond (eqb (x / p) q) (get_or memory x 0) (get_or copy x 0)
   get_or_with_page copy q x even begins below =
-      let long = length_page memory p q in
+      let long = length-part memory (q * p) p in
       let laid = get_or_overlaid copy (part memory (q * p) p) (q * p) (omega arith) x in
       let on = on_page p q x paged in
       grind (arith, nat_tests, get_or_part)

@@ -34,7 +34,8 @@ fn numbers_fit<B: CleanBitmap>(memory: &[u8], bitmap: &B)
 /// Takes a parcel of the dirty pages of `memory`, applies it to `copy`, and loads an element there.
 /// A taking that is refused changes nothing. After it the parcel lies in `buf` and its pages are clean,
 /// also where the copy, which then stays as it was, or the load refuses.
-/// After every run of calls that led to the memory, the bitmap and the copy, the law of the copy holds; and the calls of a program make such a run.
+/// After every run of calls that led to the memory, the bitmap and the copy, the law of the copy holds; and the calls of
+/// a program make such a run.
 pub fn refresh<B: CleanBitmap, T: ByteValued>(
     memory: &[u8],
     bitmap: &mut B,
@@ -52,8 +53,7 @@ pub fn refresh<B: CleanBitmap, T: ByteValued>(
 {
     numbers_fit(memory, bitmap);
     let taken = take(memory, bitmap, buf)?;
-    let length = taken.length;
-    apply(copy, &buf[0..length])?;
+    apply(copy, &buf[0..taken.length])?;
     let element = element.load(copy)?;
     Ok(Refreshed { taken, element })
 }

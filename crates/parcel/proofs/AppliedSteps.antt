@@ -1,19 +1,21 @@
 -- Applying, by its steps. Assumes nothing.
 use Rattle.std.proofs.Common.{◌≡◌, ℕ, ◌+◌, ◌*◌, ◌≤◌, min, Bool, true, false, cond, not, ◌||◌, eqb, ltb, Some, List, length, take, drop, sym, refl, ap, ◌∙◌, inl, inr, arith, length-take, length-drop}
 use Rattle.std.proofs.lemmas.Bool.{cases_Bool, cond-true, cond-false, eqb-true, not-false}
+use Rattle.std.proofs.lemmas.Option.{none-some}
 use Rattle.std.proofs.lemmas.List.{drop-drop}
 use Rattle.bitmap.specs.Pages.{page_size}
 use Rattle.volatile_memory.specs.Faults.{Fault, Answer, bad_parcel}
 use Rattle.volatile_memory.specs.Faults.Answer.{gives, refuses}
 use Rattle.parcel.specs.Parcels.{pages, page_length, number_at, numbers, numbers_of, wrong_from, sum_of, laid_pages, unless, applied}
 use Rattle.parcel.specs.Rules.{head_of, head_rules, length_rule, rules, wrong_among, Below, Carries}
+use Rattle.parcel.proofs.Refusals.{gives-refuses}
 use Rattle.parcel.proofs.PageNumbers.{numbers_carried, wrong_listed, right_below}
 
 -- a page size that was made is the number that it was made of
 pub size_made : (n p : ℕ) → Some p ≡ page_size n → p ≡ n
 size_made n p is =
     elim (cases_Bool (eqb n 0)) [
-      | inl e ↦ let clash = is ∙ cond-true _ _ _ e in let z : ◌≡◌ {A = ℕ} 0 1 = cc in absurd (omega arith)
+      | inl e ↦ absurd (none-some p (sym (is ∙ cond-true _ _ _ e)))
       | inr e ↦ let same = is ∙ cond-false _ _ _ e in cc
     ]
 
@@ -36,31 +38,31 @@ pub head_refused : (n : ℕ) (bs : List ℕ) (f : Fault) → refuses f ≡ head_
 head_refused n bs f is =
     elim (cases_Bool (ltb (length bs) 24)) [
       | inl e ↦ let same = is ∙ cond-true _ _ _ e in let g : f ≡ bad_parcel 1 (length bs) = cc in ap refuses g ∙ sym (cond-true _ _ _ e)
-      | inr e ↦ let clash = is ∙ cond-false _ _ _ e in let z : ◌≡◌ {A = ℕ} 0 1 = cc in absurd (omega arith)
+      | inr e ↦ absurd (gives-refuses (sym (is ∙ cond-false _ _ _ e)))
     ]
 
 -- what stands behind a step that was refused, or passed
 step_refused : {X : Type 0} (w : Answer ℕ) (f : Fault) (s : ℕ) → refuses f ≡ unless w (gives s) → (a : Answer X) → unless w a ≡ refuses f
-step_refused (gives x) f s is a = let z : ◌≡◌ {A = ℕ} 0 1 = cc in absurd (omega arith)
+step_refused (gives x) f s is a = absurd (gives-refuses (sym is))
 step_refused (refuses g) f s is a = let e : f ≡ g = cc in ap refuses (sym e)
 
 step_passed : {X : Type 0} (w : Answer ℕ) (n s : ℕ) → gives n ≡ unless w (gives s) → (n ≡ s) × ((a : Answer X) → unless w a ≡ a)
 step_passed (gives x) n s is = (cc, λ a. refl)
-step_passed (refuses g) n s is = let z : ◌≡◌ {A = ℕ} 0 1 = cc in absurd (omega arith)
+step_passed (refuses g) n s is = absurd (gives-refuses is)
 
 length_right : (n owed : ℕ) → gives 0 ≡ length_rule n owed → n ≡ owed
 length_right n owed is =
     elim (cases_Bool (eqb n owed)) [
       | inl e ↦ eqb-true n owed e
-      | inr e ↦ let clash = is ∙ cond-false _ _ _ e in let z : ◌≡◌ {A = ℕ} 0 1 = cc in absurd (omega arith)
+      | inr e ↦ absurd (gives-refuses (is ∙ cond-false _ _ _ e))
     ]
 
 -- of rules 1 to 4 that something passed, the third: the memory is as long as the parcel says
 third_kept : (t₁ t₂ t₃ t₄ : Bool) (f₁ f₂ f₃ f₄ : Fault) (y : ℕ) → gives y ≡ cond t₁ (refuses f₁) (cond t₂ (refuses f₂) (cond t₃ (refuses f₃) (cond t₄ (refuses f₄) (gives 0)))) → t₃ ≡ false
 third_kept false false false t₄ f₁ f₂ f₃ f₄ y is = refl
-third_kept false false true t₄ f₁ f₂ f₃ f₄ y is = let z : ◌≡◌ {A = ℕ} 0 1 = cc in absurd (omega arith)
-third_kept false true t₃ t₄ f₁ f₂ f₃ f₄ y is = let z : ◌≡◌ {A = ℕ} 0 1 = cc in absurd (omega arith)
-third_kept true t₂ t₃ t₄ f₁ f₂ f₃ f₄ y is = let z : ◌≡◌ {A = ℕ} 0 1 = cc in absurd (omega arith)
+third_kept false false true t₄ f₁ f₂ f₃ f₄ y is = absurd (gives-refuses is)
+third_kept false true t₃ t₄ f₁ f₂ f₃ f₄ y is = absurd (gives-refuses is)
+third_kept true t₂ t₃ t₄ f₁ f₂ f₃ f₄ y is = absurd (gives-refuses is)
 
 same_length : (n y : ℕ) (bs : List ℕ) → gives y ≡ head_rules n bs → number_at bs 2 ≡ n
 same_length n y bs is =
@@ -102,7 +104,7 @@ module _ (n : ℕ) (bs : List ℕ) where
 -- a step that was passed, and what stands behind it
 behind_step : (w a : Answer ℕ) (x : ℕ) → gives x ≡ unless w a → ((y : ℕ) × (gives y ≡ w)) × (gives x ≡ a)
 behind_step (gives y) a x is = ((y, refl), is)
-behind_step (refuses f) a x is = let z : ◌≡◌ {A = ℕ} 0 1 = cc in absurd (omega arith)
+behind_step (refuses f) a x is = absurd (gives-refuses is)
 
 -- the pages of a parcel that keeps all rules are pages of the memory, and their bytes are all there
 module _ (n : ℕ) (bs : List ℕ) (p total : ℕ) (ns rest : List ℕ) (c : Carries n bs p total ns rest) where

@@ -2,6 +2,7 @@
 use Rattle.std.proofs.Common.{◌≡◌, ℕ, zero, suc, ◌+◌, ◌-◌, ◌<◌, ◌≤◌, Bool, cond, Some, None, [], ◌∷◌, ◌++◌, length, sym, refl, ap, ◌∙◌, inl, inr, append-nil, append_assoc, arith, length-append}
 use Rattle.std.specs.List.{find, range_with_len}
 use Rattle.std.proofs.lemmas.Bool.{cases_Bool, cond-true, cond-false}
+use Rattle.std.proofs.lemmas.Option.{none-some}
 use Rattle.parcel.specs.Parcels.{dirty_below}
 use Rattle.parcel.specs.Rules.{dirty_from}
 
@@ -30,7 +31,7 @@ module _ (d : ℕ → Bool) where
 
   -- the first of them is the one that a search finds
   first_found : (m k x : ℕ) → Some x ≡ find d (range_with_len m k) → (m ≤ x) × (x < m + k) × (dirty_from d m k ≡ x ∷ dirty_from d (x + 1) (m + k - (x + 1)))
-  first_found m zero x is = let z : ◌≡◌ {A = ℕ} 0 1 = cc in absurd (omega arith)
+  first_found m zero x is = absurd (none-some x (sym is))
   first_found m (suc k) x is =
       elim (cases_Bool (d m)) [
         | inl e ↦
@@ -53,7 +54,7 @@ module _ (d : ℕ → Bool) where
   found_none m zero is = refl
   found_none m (suc k) is =
       elim (cases_Bool (d m)) [
-        | inl e ↦ let clash = is ∙ cond-true _ _ _ e in let z : ◌≡◌ {A = ℕ} 0 1 = cc in absurd (omega arith)
+        | inl e ↦ absurd (none-some m (is ∙ cond-true _ _ _ e))
         | inr e ↦ rw e (found_none (m + 1) k (is ∙ cond-false _ _ _ e))
       ]
 

@@ -1,3 +1,4 @@
+pub mod Refusals
 pub mod PagePlaces
 pub mod DirtyList
 pub mod WrittenPages

@@ -1,14 +1,18 @@
 -- A parcel's page numbers, looked at one by one. Assumes nothing.
 use Rattle.std.proofs.Common.{◌≡◌, ℕ, zero, suc, ◌+◌, ◌-◌, ◌*◌, ◌/◌, ◌<◌, ◌≤◌, min, true, cond, ◌&&◌, ltb, leb, Some, None, Option, List, [], ◌∷◌, length, take, drop, sym, refl, ap, ap₂, ◌∙◌, subst, inl, inr, mul-le-mul_right, suc-mul, arith, length-drop, length-take}
+use Rattle.std.specs.List.{slice_get}
+use Rattle.std.proofs.lemmas.Option.{none-some, slice_get_past}
+use Rattle.std.proofs.lemmas.Bool.Decides.{nat_tests}
 use Rattle.std.proofs.lemmas.List.{drop-drop, drop-take, take-take}
-use Rattle.std.proofs.lemmas.Bool.{cases_Bool, le-ltb, lt-ltb, le-leb, cond-true, cond-false, and_parts, leb-true, ltb-true, ltb-false}
+use Rattle.std.proofs.lemmas.Bool.{cases_Bool, cases_lt, le-ltb, lt-ltb, le-leb, cond-true, cond-false, and_parts, leb-true, ltb-true, ltb-false}
 use Rattle.byte_valued.specs.Buffers.{made_of}
 use Rattle.byte_valued.specs.LittleEndian.{number_of}
 use Rattle.volatile_memory.specs.Faults.{bad_parcel}
 use Rattle.volatile_memory.specs.Faults.Answer.{gives, refuses}
 use Rattle.volatile_memory.specs.Memory.{part, overlaid}
-use Rattle.parcel.specs.Parcels.{number_at, numbers, numbers_of, page_number, wrong_from, page_length, laid_pages}
+use Rattle.parcel.specs.Parcels.{number_at, numbers, numbers_of, page_number, page_numbers, wrong_from, page_length, laid_pages}
 use Rattle.parcel.specs.Rules.{Below, first_of, head_of, wrong_among}
+use Rattle.parcel.proofs.Refusals.{gives-refuses}
 
 pub length-numbers : (bs : List ℕ) (i k : ℕ) → length (numbers bs i k) ≡ k
 length-numbers bs i zero = refl
@@ -68,31 +72,51 @@ first_missing bs few =
 pub first_told : (bs : List ℕ) (a b c : ℕ) → Some (a, b, c) ≡ first_of bs → (24 ≤ length bs) × (a ≡ number_at bs 0) × (b ≡ number_at bs 1) × (c ≡ number_at bs 2)
 first_told bs a b c is =
     elim (cases_Bool (ltb (length bs) 24)) [
-      | inl e ↦ let clash = is ∙ cond-true _ _ _ e in let z : ◌≡◌ {A = ℕ} 0 1 = cc in absurd (omega arith)
+      | inl e ↦ absurd (none-some _ (sym (is ∙ cond-true _ _ _ e)))
       | inr e ↦ let same = is ∙ cond-false _ _ _ e in let each : ◌≡◌ {A = ℕ × ℕ × ℕ} (a, b, c) (number_at bs 0, number_at bs 1, number_at bs 2) = cc in (ltb-false (length bs) 24 e, ap (λ t. t.0) each, ap (λ t. t.1) each, ap (λ t. t.2) each)
     ]
 
 pub head_told : (bs : List ℕ) (a b c : ℕ) → gives (a, b, c) ≡ head_of bs → (24 ≤ length bs) × (a ≡ number_at bs 0) × (b ≡ number_at bs 1) × (c ≡ number_at bs 2)
 head_told bs a b c is =
     elim (cases_Bool (ltb (length bs) 24)) [
-      | inl e ↦ let clash = is ∙ cond-true _ _ _ e in let z : ◌≡◌ {A = ℕ} 0 1 = cc in absurd (omega arith)
+      | inl e ↦ absurd (gives-refuses (is ∙ cond-true _ _ _ e))
       | inr e ↦ let same = is ∙ cond-false _ _ _ e in let each : ◌≡◌ {A = ℕ × ℕ × ℕ} (a, b, c) (number_at bs 0, number_at bs 1, number_at bs 2) = cc in (ltb-false (length bs) 24 e, ap (λ t. t.0) each, ap (λ t. t.1) each, ap (λ t. t.2) each)
     ]
-
--- the number of a page that a parcel says it has, and has bytes for
-pub page_read : (bs : List ℕ) (i : ℕ) → i < number_at bs 1 → 24 + 8 * (i + 1) ≤ length bs → made_of 8 number_of (take (24 + 8 * i + 8 - (24 + 8 * i)) (drop (24 + 8 * i) bs)) ≡ page_number bs i
-unfolding part
-page_read bs i told within =
-    let size : 24 + 8 * i + 8 - (24 + 8 * i) ≡ 8 = omega arith in
-    let start : 24 + 8 * i ≡ (3 + i) * 8 = omega arith in
-    let long : length (take 8 (drop ((3 + i) * 8) bs)) ≡ 8 = simp (length-take, length-drop) (omega arith) in
-    rw (lt-ltb i (number_at bs 1) told, le-leb (24 + 8 * (i + 1)) (length bs) within, size, start, long) refl
 
 -- the page numbers of a parcel, which its head is cut off from
 pub numbers_carried : (bs : List ℕ) (k : ℕ) → 24 + 8 * k ≤ length bs → numbers_of (take (8 * k) (drop 24 bs)) ≡ numbers bs 3 k
 numbers_carried bs k room =
     let e : length (take (8 * k) (drop 24 bs)) / 8 ≡ k = simp (length-take, length-drop) (omega arith) in
     ap (numbers (take (8 * k) (drop 24 bs)) 0) e ∙ numbers_within (drop 24 bs) (8 * k) 0 k (omega arith) ∙ numbers_behind bs 3 0 k
+
+-- as many of them as a parcel says it has, and has bytes for
+pub pages_listed : (bs : List ℕ) (k : ℕ) → 24 ≤ length bs → k ≡ min (number_at bs 1) ((length bs - 24) / 8) → numbers_of (take (8 * k) (drop 24 bs)) ≡ page_numbers bs
+pages_listed bs k head k_is = numbers_carried bs k (omega (arith, k_is)) ∙ ap (numbers bs 3) k_is
+
+-- with no room for a head there are none
+pub none_listed : (bs : List ℕ) → None ≡ first_of bs → [] ≡ page_numbers bs
+none_listed bs is =
+    elim (cases_Bool (ltb (length bs) 24)) [
+      | inl e ↦ let none : min (number_at bs 1) ((length bs - 24) / 8) ≡ 0 = omega (arith, ltb-true (length bs) 24 e) in rw none refl
+      | inr e ↦ absurd (none-some _ (is ∙ cond-false _ _ _ e))
+    ]
+
+-- one of k numbers
+nth_number : (bs : List ℕ) (j k i : ℕ) → i < k → slice_get (numbers bs j k) i ≡ Some (number_at bs (j + i))
+nth_number bs j zero i below = absurd (omega arith)
+nth_number bs j (suc k) zero below = let e : j ≡ j + 0 = omega arith in ap (λ n. Some (number_at bs n)) e
+nth_number bs j (suc k) (suc i) below =
+    let e : j + 1 + i ≡ j + suc i = omega arith in
+    nth_number bs (j + 1) k i (omega arith) ∙ ap (λ n. Some (number_at bs n)) e
+
+-- the number of a page that a parcel says it has, and has bytes for
+pub nth_page : (bs : List ℕ) (i : ℕ) → slice_get (page_numbers bs) i ≡ page_number bs i
+nth_page bs i =
+    let k = min (number_at bs 1) ((length bs - 24) / 8) in
+    elim (cases_lt i k) [
+      | inl below ↦ nth_number bs 3 k i below ∙ rw (lt-ltb i (number_at bs 1) (omega arith), le-leb (24 + 8 * (i + 1)) (length bs) (omega arith)) refl
+      | inr past ↦ let none = slice_get_past (page_numbers bs) i (omega (arith, length-numbers bs 3 k)) in grind (arith, nat_tests)
+    ]
 
 -- rule 5 over the list of the page numbers
 pub wrong_listed : (bs : List ℕ) (n low i k : ℕ) → wrong_from bs n low i k ≡ wrong_among n low i (numbers bs i k)
@@ -106,7 +130,7 @@ right_below n low i x [] is = tt
 right_below n low i x (q ∷ qs) is =
     elim (cases_Bool (leb low q && ltb q n)) [
       | inl e ↦ (ltb-true _ _ (and_parts _ _ e).1, right_below n (q + 1) (i + 1) x qs (sym (cond-true _ _ _ e) ∙ is))
-      | inr e ↦ let clash = sym (cond-false _ _ _ e) ∙ is in let z : ◌≡◌ {A = ℕ} 0 1 = cc in absurd (omega arith)
+      | inr e ↦ absurd (gives-refuses (sym is ∙ cond-false _ _ _ e))
     ]
 
 -- the first of such pages, and the others

@@ -1,23 +1,11 @@
 -- Where pages lie in a memory. Assumes nothing.
-use Rattle.std.proofs.Common.{◌≡◌, ℕ, ◌+◌, ◌-◌, ◌*◌, ◌%◌, ◌^◌, ◌<◌, ◌≤◌, ap, inl, inr, mul-le-mul_left, mul-le-mul_right, div-mul-le_self, arith}
+use Rattle.std.proofs.Common.{◌≡◌, ℕ, ◌+◌, ◌-◌, ◌*◌, ◌%◌, ◌^◌, ◌<◌, ◌≤◌, ap, mul-le-mul_right, div-mul-le_self, arith}
 use Rattle.std.proofs.lemmas.Nat.{div-mul-add}
-use Rattle.std.proofs.lemmas.Bool.{cases_lt}
 use Rattle.bitmap.specs.Pages.{Meaning, top, ceiling, place, dirty, dirty_at}
 
 -- a page of n bytes begins before their end
 pub page_begins : (n p q : ℕ) → 0 < p → q < ceiling n p → q * p < n
 page_begins n p q some below = omega (arith, div-mul-le_self (n + (p - 1)) p, mul-le-mul_right p below)
-
--- n bytes have no more than n pages
-pub pages_within : (n p : ℕ) → 0 < p → ceiling n p ≤ n
-pages_within n p some =
-    elim (cases_lt 0 (ceiling n p)) [
-      | inl more ↦
-          let last = page_begins n p (ceiling n p - 1) some (omega arith) in
-          let each : (ceiling n p - 1) * 1 ≤ (ceiling n p - 1) * p = mul-le-mul_left (ceiling n p - 1) some in
-          omega arith
-      | inr none ↦ omega arith
-    ]
 
 -- a page of a bitmap starts within 64 bits
 pub page_within : (count p q : ℕ) → (count - 1) * p ≤ top → q < count → q * p ≤ top

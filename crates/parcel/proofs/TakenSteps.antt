@@ -11,6 +11,7 @@ use Rattle.volatile_memory.specs.Faults.Answer.{gives, refuses}
 use Rattle.parcel.specs.Parcels.{pages, due, covered, taken, swept}
 use Rattle.parcel.specs.Outcomes.{told, left}
 use Rattle.parcel.specs.Rules.{cover}
+use Rattle.parcel.proofs.Refusals.{gives-refuses}
 
 module _ (b : Meaning) (memory : List ℕ) where
   -- a bitmap that has every page
@@ -18,7 +19,7 @@ module _ (b : Meaning) (memory : List ℕ) where
   cover_tells is =
       elim (cases_Bool (covered b memory)) [
         | inl e ↦ e
-        | inr e ↦ let clash = is ∙ cond-false _ _ _ e in let z : ◌≡◌ {A = ℕ} 0 1 = cc in absurd (omega arith)
+        | inr e ↦ absurd (gives-refuses (is ∙ cond-false _ _ _ e))
       ]
 
   module _ (room : ℕ) where
@@ -26,7 +27,7 @@ module _ (b : Meaning) (memory : List ℕ) where
     unfolding taken
     taken-uncovered f is =
         elim (cases_Bool (covered b memory)) [
-          | inl e ↦ let clash = is ∙ cond-true _ _ _ e in let z : ◌≡◌ {A = ℕ} 0 1 = cc in absurd (omega arith)
+          | inl e ↦ absurd (gives-refuses (sym (is ∙ cond-true _ _ _ e)))
           | inr e ↦ let same = is ∙ cond-false _ _ _ e in let g : f ≡ uncovered (pages (length memory) b.page) b.count = cc in cond-true _ _ _ (not_from_false _ e) ∙ ap refuses (sym g)
         ]
 
@@ -53,20 +54,17 @@ module _ (b : Meaning) (memory : List ℕ) where
     told_covered k x is =
         elim (cases_Bool (covered b memory)) [
           | inl e ↦ e
-          | inr e ↦
-              let clash = is ∙ ap (told k) (cond-true _ _ _ (not_from_false _ e)) in
-              let z : ◌≡◌ {A = ℕ} 0 1 = cc in
-              absurd (omega arith)
+          | inr e ↦ absurd (gives-refuses (is ∙ ap (told k) (cond-true _ _ _ (not_from_false _ e))))
         ]
 
   -- what is left of a bitmap, by what was told
   pub left_alone : (k : ℕ) (t : Answer (List ℕ)) (f : Fault) → refuses f ≡ told k t → left b memory t ≡ b
-  left_alone k (gives bs) f is = let z : ◌≡◌ {A = ℕ} 0 1 = cc in absurd (omega arith)
+  left_alone k (gives bs) f is = absurd (gives-refuses (sym is))
   left_alone k (refuses g) f is = refl
 
   pub left_swept : (k : ℕ) (t : Answer (List ℕ)) (x : ℕ × ℕ) → gives x ≡ told k t → left b memory t ≡ swept b memory
   left_swept k (gives bs) x is = refl
-  left_swept k (refuses g) x is = let z : ◌≡◌ {A = ℕ} 0 1 = cc in absurd (omega arith)
+  left_swept k (refuses g) x is = absurd (gives-refuses is)
 
 -- the pages of a whole memory, from its first byte to its last
 all_pages : (p count n m : ℕ) → 0 < p → n ≤ top → ceiling n p ≤ count → spans p count 0 n m ≡ ltb m (ceiling n p)

@@ -11,9 +11,10 @@ pub length-words : (ns : List ℕ) → length (words ns) ≡ 8 * length ns
 length-words [] = refl
 length-words (n ∷ ns) = omega (arith, length-words ns)
 
-pub length_page : (memory : List ℕ) (p q : ℕ) → length (part memory (q * p) p) ≡ page_length p (length memory) q
+-- a part is as long as it is asked to be, as far as there are bytes
+pub length-part : (xs : List ℕ) (o k : ℕ) → length (part xs o k) ≡ min k (length xs - o)
 unfolding part
-length_page memory p q = simp (length-take, length-drop)
+length-part xs o k = simp (length-take, length-drop)
 
 -- the bytes of page q, as a slice's part
 pub page_part : (memory : List ℕ) (page q from size p total : ℕ) → p ≡ page → total ≡ length memory → from ≡ min (q * p) total → size ≡ page_length p total q → take (from + size - from) (drop from memory) ≡ part memory (q * page) page
@@ -33,7 +34,7 @@ page_part memory page q from size p total p_is total_is from_is size_is =
 pub length-bodies : (p : ℕ) (memory qs : List ℕ) → length (bodies p memory qs) ≡ sum_of (page_length p (length memory)) qs
 length-bodies p memory [] = refl
 length-bodies p memory (q ∷ qs) =
-    length-append (part memory (q * p) p) (bodies p memory qs) ∙ ap₂ ◌+◌ (length_page memory p q) (length-bodies p memory qs)
+    length-append (part memory (q * p) p) (bodies p memory qs) ∙ ap₂ ◌+◌ (length-part memory (q * p) p) (length-bodies p memory qs)
 
 -- the first of some numbers laid, and those behind it
 pub number_next : (buf buf' ns left : List ℕ) (at at' n : ℕ) → ns ≡ n ∷ left → at' ≡ at + 8 → buf' ≡ overlaid buf at (bytes_of 8 n) → at + 8 * length ns ≤ length buf → overlaid buf at (words ns) ≡ overlaid buf' at' (words left)

@@ -75,6 +75,10 @@ abbrev pub numbers : List ℕ → ℕ → ℕ → List ℕ
 numbers bs i zero = []
 numbers bs i (suc k) = number_at bs i ∷ numbers bs (i + 1) k
 
+-- the numbers of the pages that a parcel carries: as many as it says it has, as far as it has bytes for them
+abbrev pub page_numbers : List ℕ → List ℕ
+page_numbers bs = numbers bs 3 (min (number_at bs 1) ((length bs - 24) / 8))
+
 -- all the numbers that bytes hold
 abbrev pub numbers_of : List ℕ → List ℕ
 numbers_of bs = numbers bs 0 (length bs / 8)

@@ -5,9 +5,9 @@ ghost use Rattle.volatile_memory.specs.Faults.Answer.{gives};
 ghost use Rattle.parcel.specs.Parcels.{pages, page_length, numbers_of, sum_of, laid_pages, unless};
 ghost use Rattle.parcel.specs.Rules.{head_rules, length_rule, rules, wrong_among, Below, Carries};
 
-use crate::contents::Contents;
+use crate::contents::{Contents, HEAD, broken};
 use crate::layout::Layout;
-use crate::numbers::{Numbers, lay};
+use crate::numbers::{NUMBER, Numbers, lay};
 use bitmap::PageSize;
 use volatile_memory::{Error, Rule};
 
@@ -33,25 +33,16 @@ impl<'a> Carried<'a> {
         ensures carried { IfOk result (λ c. Carries total parcel.now c.layout.page_size.value c.layout.total c.numbers.now c.bytes.now) }
     {
         let contents = Contents::read(parcel)?;
-        let page_size = PageSize::new(contents.page_size).ok_or(Error::BadParcel {
-            rule: Rule::NoPageSize,
-            place: 0,
-        })?;
+        let page_size = PageSize::new(contents.page_size).ok_or(broken(Rule::NoPageSize, 0))?;
         if contents.total != total {
-            return Err(Error::BadParcel {
-                rule: Rule::OtherLength,
-                place: 16,
-            });
+            return Err(broken(Rule::OtherLength, 2 * NUMBER));
         }
         let layout = Layout { page_size, total };
-        let (_, rest) = parcel.split_at(24);
-        if layout.count() < contents.pages || rest.len() / 8 < contents.pages {
-            return Err(Error::BadParcel {
-                rule: Rule::TooManyPages,
-                place: 8,
-            });
+        let (_, rest) = parcel.split_at(HEAD);
+        if layout.count() < contents.pages || rest.len() / NUMBER < contents.pages {
+            return Err(broken(Rule::TooManyPages, NUMBER));
         }
-        let (numbers, bytes) = rest.split_at(8 * contents.pages);
+        let (numbers, bytes) = rest.split_at(NUMBER * contents.pages);
         Ok(Carried {
             layout,
             numbers,
@@ -71,10 +62,7 @@ impl<'a> Carried<'a> {
         let numbers = Numbers::new(self.numbers);
         for (index, page) in numbers.enumerate() {
             if !is_right(page, low, count) {
-                return Err(Error::BadParcel {
-                    rule: Rule::WrongPage,
-                    place: (3 + index) * 8,
-                });
+                return Err(broken(Rule::WrongPage, HEAD + index * NUMBER));
             }
             bytes += self.layout.size(page);
             low = page + 1;
@@ -88,10 +76,10 @@ impl<'a> Carried<'a> {
         ensures { said (λ _. 0) result ≡ length_rule (24 + length self.now.numbers.now + length self.now.bytes.now) (24 + length self.now.numbers.now + owed) }
     {
         if self.bytes.len() != owed {
-            return Err(Error::BadParcel {
-                rule: Rule::WrongLength,
-                place: 24 + self.numbers.len() + self.bytes.len().min(owed),
-            });
+            return Err(broken(
+                Rule::WrongLength,
+                HEAD + self.numbers.len() + self.bytes.len().min(owed),
+            ));
         }
         Ok(())
     }

@@ -1,15 +1,24 @@
 //! What a parcel says of itself.
 ghost use Rattle.std.specs.Prelude.{◌≡◌, ◌≤◌, [], ◌∷◌, length};
 ghost use Rattle.std.specs.Option.{option_map};
-ghost use Rattle.volatile_memory.specs.Faults.{said};
+ghost use Rattle.volatile_memory.specs.Faults.{said, fault, bad_parcel, rule_number};
 ghost use Rattle.volatile_memory.specs.Memory.{overlaid};
-ghost use Rattle.parcel.specs.Parcels.{page_number, words};
+ghost use Rattle.parcel.specs.Parcels.{numbers_of, page_number, page_numbers, words};
 ghost use Rattle.parcel.specs.Rules.{first_of, head_of, inspected};
 
 use crate::carried::Carried;
-use crate::numbers::{Numbers, lay_number};
-use byte_valued::ByteValued;
+use crate::numbers::{NUMBER, Numbers, lay_number};
 use volatile_memory::{Error, Rule};
+
+// How many bytes the three numbers take that begin a parcel.
+pub(crate) const HEAD: usize = 3 * NUMBER;
+
+// The refusal of a parcel that breaks a rule, and where.
+pub(crate) fn broken(rule: Rule, place: usize) -> Error
+    ensures { fault result ≡ bad_parcel (rule_number rule) place }
+{
+    Error::BadParcel { rule, place }
+}
 
 /// A parcel's page size, how many pages it carries, and how long the memory is.
 #[derive(Clone, Copy, PartialEq, Eq, Debug)]
@@ -40,10 +49,7 @@ impl Contents {
     pub(crate) fn read(parcel: &[u8]) -> Result<Contents, Error>
         ensures { said (λ c. (c.page_size, c.pages, c.total)) result ≡ head_of parcel.now }
     {
-        Contents::first(parcel).ok_or(Error::BadParcel {
-            rule: Rule::ShortHead,
-            place: parcel.len(),
-        })
+        Contents::first(parcel).ok_or(broken(Rule::ShortHead, parcel.len()))
     }
 
     // Lays the head at the start of a buffer, and says where it ends.
@@ -67,15 +73,23 @@ pub fn inspect(parcel: &[u8]) -> Result<Contents, Error>
     Ok(contents)
 }
 
+/// The numbers of the pages that a parcel carries: as many as it says it has, as far as it has bytes for them.
+pub fn page_numbers<'a>(parcel: &'a [u8]) -> Numbers<'a>
+    ensures { numbers_of result.bytes.now ≡ page_numbers parcel.now }
+{
+    let Some(contents) = Contents::first(parcel) else {
+        return Numbers::new(&[]);
+    };
+    let (_, rest) = parcel.split_at(HEAD);
+    let count = contents.pages.min(rest.len() / NUMBER);
+    let (numbers, _) = rest.split_at(NUMBER * count);
+    Numbers::new(numbers)
+}
+
 /// The number of the `index`-th page that a parcel carries: absent past the pages that the parcel says it has, and past
 /// its bytes.
 pub fn page_number(parcel: &[u8], index: usize) -> Option<usize>
     ensures { result ≡ page_number parcel.now index }
 {
-    let contents = Contents::first(parcel)?;
-    if index >= contents.pages || index >= (parcel.len() - 24) / 8 {
-        return None;
-    }
-    let start = 24 + 8 * index;
-    usize::from_slice(&parcel[start..start + 8])
+    page_numbers(parcel).nth(index)
 }

@@ -8,9 +8,9 @@ ghost use Rattle.volatile_memory.specs.Memory.{overlaid, part};
 ghost use Rattle.parcel.specs.Parcels.{pages, page_length, dirty_pages, words, bodies, due, sum_of};
 ghost use Rattle.parcel.specs.Rules.{dirty_from, cover};
 
-use crate::contents::Contents;
+use crate::contents::{Contents, HEAD};
 use crate::layout::Layout;
-use crate::numbers::{lay, lay_number};
+use crate::numbers::{NUMBER, lay, lay_number};
 use crate::taking::Taken;
 use bitmap::CleanBitmap;
 use volatile_memory::Error;
@@ -115,10 +115,12 @@ impl<'a, B: CleanBitmap> DirtyPages<'a, B> {
         ensures pages { result.pages ≡ length (dirty_pages (B.Bitmap.means self.now.bitmap.now) self.now.memory.now) }
     {
         let layout = self.layout();
-        let mut length = 24usize;
+        let mut length = HEAD;
         let mut pages = 0;
         for page in self.numbers() {
-            length = length.saturating_add(8).saturating_add(layout.size(page));
+            length = length
+                .saturating_add(NUMBER)
+                .saturating_add(layout.size(page));
             pages += 1;
         }
         Taken { length, pages }

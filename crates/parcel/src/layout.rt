@@ -16,7 +16,7 @@ impl Layout {
     pub(crate) fn count(self) -> usize
         ensures { result ≡ pages self.total self.page_size.value }
     {
-        self.total.div_ceil(self.page_size.get())
+        self.page_size.pages(self.total)
     }
 
     // Where a page starts: past the last one, at the end.

@@ -13,5 +13,6 @@ mod numbers;
 mod taking;
 
 pub use applying::apply;
-pub use contents::{Contents, inspect, page_number};
+pub use contents::{Contents, inspect, page_number, page_numbers};
+pub use numbers::Numbers;
 pub use taking::{Taken, parcel_len, take};

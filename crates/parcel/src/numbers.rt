@@ -7,9 +7,12 @@ ghost use Rattle.parcel.specs.Parcels.{numbers_of};
 
 use byte_valued::ByteValued;
 
+// How many bytes a number has.
+pub(crate) const NUMBER: usize = 8;
+
 /// The numbers that bytes hold, 8 bytes each.
 #[derive(Drop)]
-pub(crate) struct Numbers<'a> {
+pub struct Numbers<'a> {
     bytes: &'a [u8],
 }
 
@@ -29,7 +32,7 @@ impl<'a> Iterator for Numbers<'a> {
     ghost remaining = { item_count (λ s. numbers_of s.bytes.now) };
 
     fn next(&mut self) -> Option<usize> {
-        let (first, rest) = self.bytes.split_at_checked(8)?;
+        let (first, rest) = self.bytes.split_at_checked(NUMBER)?;
         self.bytes = rest;
         usize::from_slice(first)
     }

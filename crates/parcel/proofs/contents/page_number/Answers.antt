@@ -1,9 +1,10 @@
-use Rattle.std.proofs.Common.{◌∙◌, arith}
-use Rattle.parcel.proofs.PageNumbers.{first_told, page_read}
+use Rattle.std.proofs.Common.{sym, ◌∙◌}
+use Rattle.std.proofs.lemmas.Iterator.Adapters.{option_map_id}
+use Rattle.std.proofs.lemmas.Iterator.Consumers.{nth_from_yields_List, YieldsList-from_first}
+use Rattle.parcel.specs.Parcels.{numbers_of}
+use Rattle.parcel.proofs.PageNumbers.{nth_page}
 use Rattle.parcel.proofs.contents.page_number.Goals as goal
 
 pub returns : goal.returns
 returns c =
-    let bs = c.args.parcel.now in
-    let told = first_told bs c.in_ok-contents.contents.page_size c.in_ok-contents.contents.pages c.in_ok-contents.contents.total c.in_ok-contents.ensures in
-    c.from_slice.ensures.value ∙ page_read bs c.args.index (omega (arith, told.2)) (omega (arith, told.0))
+    sym (option_map_id c.nth.result) ∙ nth_from_yields_List c.nth.result c.nth.new.self c.args.index c.nth.ensures.ran (YieldsList-from_first (λ x. x) (λ s. numbers_of s.bytes.now) _ c.page_numbers.ensures) ∙ nth_page c.args.parcel.now c.args.index

@@ -7,13 +7,13 @@ loop-index-init-derived c =
     let few = length-numbers c.args.self.now.numbers.now 0 (length c.args.self.now.numbers.now / 8) in
     search rules
 
-pub overflow_add-result : goal.overflow_add-result
-overflow_add-result c =
+pub overflow_add-index : goal.overflow_add-index
+overflow_add-index c =
     let few = length-numbers c.args.self.now.numbers.now 0 (length c.args.self.now.numbers.now / 8) in
     omega (arith, few, c.loop-index.invariant.listed, ap length c.in-Some.ensures.steps.0, c.in-Some.ensures.steps.1)
 
-pub overflow_mul-result : goal.overflow_mul-result
-overflow_mul-result c =
+pub overflow_mul-index : goal.overflow_mul-index
+overflow_mul-index c =
     let few = length-numbers c.args.self.now.numbers.now 0 (length c.args.self.now.numbers.now / 8) in
     omega (arith, few, c.loop-index.invariant.listed, ap length c.in-Some.ensures.steps.0, c.in-Some.ensures.steps.1)
 

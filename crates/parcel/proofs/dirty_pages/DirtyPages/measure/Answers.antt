@@ -1,8 +1,8 @@
 use Rattle.std.proofs.Common.{length, ap, ap₂, arith}
 use Rattle.bitmap.specs.Pages.{dirty}
+use Rattle.bitmap.proofs.PageLaws.{ceiling_le}
 use Rattle.parcel.specs.Parcels.{pages, page_length, dirty_pages, sum_of}
 use Rattle.parcel.proofs.DirtyList.{dirty_count}
-use Rattle.parcel.proofs.PagePlaces.{pages_within}
 use Rattle.parcel.proofs.WrittenPages.{length-parcel}
 use Rattle.parcel.proofs.dirty_pages.DirtyPages.measure.Goals as goal
 
@@ -10,7 +10,7 @@ pub overflow_add-pages : goal.overflow_add-pages
 overflow_add-pages g c =
     let b = g.B.Bitmap.means c.args.self.now.bitmap.now in
     let n = length c.args.self.now.memory.now in
-    omega (arith, c.loop-page.invariant.counted, ap length c.in-Some.ensures.steps, dirty_count (dirty b) (pages n b.page), pages_within n b.page (g.B.Bitmap.paged c.args.self.now.bitmap.now))
+    omega (arith, c.loop-page.invariant.counted, ap length c.in-Some.ensures.steps, dirty_count (dirty b) (pages n b.page), ceiling_le n b.page (g.B.Bitmap.paged c.args.self.now.bitmap.now))
 
 pub returns-clause-length : goal.returns-clause-length
 returns-clause-length g c =
