@@ -1,6 +1,6 @@
 //! Claims and parcels, on ten bytes in pages of four.
 use bitmap::{AtomicBitmap, BaseSlice, PageSize};
-use parcel::{Contents, Taken, apply, inspect, page_number, take};
+use parcel::{Contents, Taken, apply, inspect, page_number, page_numbers, take};
 use std::test::Fail;
 use volatile_memory::{Error, Rule, VolatileSlice};
 
@@ -10,11 +10,14 @@ const TWO_PAGES: [u8; 46] = [
     0, 2, 0, 0, 0, 0, 0, 0, 0, 1, 0, 0, 0, 0, 2,
 ];
 
+// Pages of four bytes.
+fn pages_of_four() -> Result<PageSize, Fail> {
+    PageSize::new(4).ok_or_else(|| Fail::new("no page size"))
+}
+
 #[test]
 fn a_claim_marks_when_it_is_settled(rt: HostRuntime) -> Result<(), Fail> {
-    let Some(page) = PageSize::new(4) else {
-        return Err(Fail::new("no page size"));
-    };
+    let page = pages_of_four()?;
     let mut memory = [0; 10];
     let mut words = [0];
     let mut bitmap = AtomicBitmap::new(10, page, &mut words);
@@ -34,9 +37,7 @@ fn a_claim_marks_when_it_is_settled(rt: HostRuntime) -> Result<(), Fail> {
 
 #[test]
 fn dirty_pages_are_taken(rt: HostRuntime) -> Result<(), Fail> {
-    let Some(page) = PageSize::new(4) else {
-        return Err(Fail::new("no page size"));
-    };
+    let page = pages_of_four()?;
     let mut memory = [0; 10];
     let mut words = [0];
     let mut bitmap = AtomicBitmap::new(10, page, &mut words);
@@ -106,6 +107,11 @@ fn a_parcel_is_applied(rt: HostRuntime) -> Result<(), Fail> {
     let numbers = [0, 1, 2].map(|index| page_number(&TWO_PAGES, index));
     assert_eq!(rt; numbers, [Some(0), Some(2), None]);
     assert_eq!(rt; page_number(&TWO_PAGES[0..39], 1), None, "no second number");
+    let mut carried = page_numbers(&TWO_PAGES);
+    assert_eq!(rt;
+        (carried.next(), carried.next(), carried.next()),
+        (Some(0), Some(2), None)
+    );
     assert_eq!(rt;
         inspect(&TWO_PAGES[0..45]),
         Err(Error::BadParcel {
