@@ -1,8 +1,9 @@
 -- The list of the dirty pages below a number: it rises, and has just those pages.
-use Rattle.std.proofs.Common.{◌≡◌, ℕ, zero, suc, ◌+◌, ◌<◌, ◌≤◌, Bool, true, false, cond, ◌&&◌, ◌||◌, eqb, ltb, List, [], ◌∷◌, ◌++◌, length, get_or, sym, refl, ◌∙◌, inl, inr, arith}
+use Rattle.std.proofs.Common.{◌≡◌, ℕ, zero, suc, ◌+◌, ◌<◌, ◌≤◌, Bool, true, false, cond, ◌&&◌, ◌||◌, eqb, ltb, List, [], ◌∷◌, ◌++◌, length, get_or, sym, refl, ap, ◌∙◌, inl, inr, arith}
 use Rattle.std.proofs.lemmas.Bool.{and_from, lt-ltb, eqb-true, or_cases, both_ways}
 use Rattle.std.proofs.lemmas.Bool.Decides.{nat_tests}
 use Rattle.parcel.specs.Parcels.{dirty_below}
+use Rattle.parcel.proofs.DirtyList.{dirty_next}
 use Rattle.mirror.specs.Mirror.{Rising, Among}
 
 -- numbers that rise, from low on and below n
@@ -18,7 +19,7 @@ chain_more low n (q ∷ qs) b h c = (c.0, omega arith, chain_more (q + 1) n qs b
 pub dirty_chain : (d : ℕ → Bool) (n : ℕ) → Chain 0 n (dirty_below d n)
 unfolding dirty_below
 dirty_chain d zero = tt
-dirty_chain d (suc n) = chain_more 0 n (dirty_below d n) (d n) (omega arith) (dirty_chain d n)
+dirty_chain d (suc n) = rw (dirty_next d n) (chain_more 0 n (dirty_below d n) (d n) (omega arith) (dirty_chain d n))
 
 chain_rises : (low n : ℕ) (qs : List ℕ) → Chain low n qs → Rising qs
 chain_rises low n [] c i h = omega arith
@@ -42,7 +43,7 @@ has_more q n (x ∷ xs) b = let ih = has_more q n xs b in grind (arith, nat_test
 pub dirty_has : (d : ℕ → Bool) (n q : ℕ) → has q (dirty_below d n) ≡ (ltb q n && d q)
 unfolding dirty_below
 dirty_has d zero q = grind (arith, nat_tests)
-dirty_has d (suc n) q = let e = has_more q n (dirty_below d n) (d n) in let ih = dirty_has d n q in grind (arith, nat_tests)
+dirty_has d (suc n) q = let next = ap (has q) (dirty_next d n) in let e = has_more q n (dirty_below d n) (d n) in let ih = dirty_has d n q in grind (arith, nat_tests)
 
 among_has : (q : ℕ) (xs : List ℕ) (i : ℕ) → i < length xs → get_or xs i 0 ≡ q → has q xs ≡ true
 among_has q [] i h e = absurd (omega arith)

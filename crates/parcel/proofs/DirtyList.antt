@@ -1,33 +1,26 @@
 -- The list of the dirty pages below a number, page by page. Assumes nothing.
-use Rattle.std.proofs.Common.{◌≡◌, ℕ, zero, suc, ◌+◌, ◌-◌, ◌<◌, ◌≤◌, Bool, cond, Some, None, [], ◌∷◌, ◌++◌, length, sym, refl, ap, ◌∙◌, inl, inr, append-nil, append_assoc, arith, length-append}
+use Rattle.std.proofs.Common.{◌≡◌, ℕ, zero, suc, ◌+◌, ◌-◌, ◌<◌, ◌≤◌, Bool, cond, Some, None, [], ◌∷◌, ◌++◌, filter, length, sym, refl, ap, ◌∙◌, inl, inr, arith, length-append}
 use Rattle.std.specs.List.{find, range_with_len}
+use Rattle.std.proofs.lemmas.List.{map-id}
+use Rattle.std.proofs.lemmas.List.FromFn.{filter_of_map_range_with_len_more}
 use Rattle.std.proofs.lemmas.Bool.{cases_Bool, cond-true, cond-false}
 use Rattle.std.proofs.lemmas.Option.{none-some}
 use Rattle.parcel.specs.Parcels.{dirty_below}
 use Rattle.parcel.specs.Rules.{dirty_from}
 
 module _ (d : ℕ → Bool) where
-  -- one page more
-  dirty_next : (q : ℕ) → dirty_below d (q + 1) ≡ dirty_below d q ++ cond (d q) (q ∷ []) []
-  unfolding dirty_below
-  dirty_next q = let e : q + 1 ≡ suc q = omega arith in rw e
-
-  -- those of k pages more
-  dirty_more : (m k : ℕ) → dirty_below d m ++ dirty_from d m k ≡ dirty_below d (m + k)
-  dirty_more m zero = let e : m + 0 ≡ m = omega arith in rw e (append-nil (dirty_below d m))
-  dirty_more m (suc k) =
-      let e : m + 1 + k ≡ m + suc k = omega arith in
-      let next : dirty_below d m ++ dirty_from d m (suc k) ≡ dirty_below d (m + 1) ++ dirty_from d (m + 1) k =
-      elim (cases_Bool (d m)) [
-        | inl is ↦ rw (dirty_next m, is) (sym (append_assoc (dirty_below d m) (m ∷ []) (dirty_from d (m + 1) k)))
-        | inr is ↦ rw (dirty_next m, is, append-nil (dirty_below d m))
-      ] in
-      next ∙ dirty_more (m + 1) k ∙ ap (dirty_below d) e
-
   -- from the first page on
   pub dirty_all : (n : ℕ) → dirty_from d 0 n ≡ dirty_below d n
   unfolding dirty_below
-  dirty_all n = let e : 0 + n ≡ n = omega arith in dirty_more 0 n ∙ ap (dirty_below d) e
+  dirty_all n = refl
+
+  -- one page more
+  pub dirty_next : (n : ℕ) → dirty_below d (suc n) ≡ dirty_below d n ++ cond (d n) (n ∷ []) []
+  unfolding dirty_below
+  dirty_next n =
+      let e : suc n ≡ n + 1 = omega arith in
+      let more = filter_of_map_range_with_len_more d (λ x. x) 0 n n (omega arith) in
+      ap (λ m. filter d (range_with_len 0 m)) e ∙ ap (filter d) (sym (map-id (range_with_len 0 (n + 1)))) ∙ more ∙ ap (λ xs. filter d xs ++ cond (d n) (n ∷ []) []) (map-id (range_with_len 0 n))
 
   -- the first of them is the one that a search finds
   first_found : (m k x : ℕ) → Some x ≡ find d (range_with_len m k) → (m ≤ x) × (x < m + k) × (dirty_from d m k ≡ x ∷ dirty_from d (x + 1) (m + k - (x + 1)))
@@ -64,6 +57,6 @@ module _ (d : ℕ → Bool) where
   dirty_count zero = omega arith
   dirty_count (suc n) =
       elim (cases_Bool (d n)) [
-        | inl e ↦ rw e (simp length-append (omega (arith, dirty_count n)))
-        | inr e ↦ rw e (simp length-append (omega (arith, dirty_count n)))
+        | inl e ↦ rw (dirty_next n, e) (simp length-append (omega (arith, dirty_count n)))
+        | inr e ↦ rw (dirty_next n, e) (simp length-append (omega (arith, dirty_count n)))
       ]

@@ -1,5 +1,6 @@
 -- Parcels: the dirty pages of a memory as bytes, and those bytes laid into a copy. Assumes nothing.
-use Rattle.std.specs.Prelude.{ℕ, zero, suc, ◌+◌, ◌-◌, ◌*◌, ◌/◌, min, Bool, false, cond, not, ◌&&◌, ◌||◌, List, [], ◌∷◌, ◌++◌, map, length, take, drop, ◌==◌, nat_le, nat_lt, if◌then◌else◌, Some, None, Option}
+use Rattle.std.specs.Prelude.{ℕ, zero, suc, ◌+◌, ◌-◌, ◌*◌, ◌/◌, min, Bool, false, cond, not, ◌&&◌, ◌||◌, List, [], ◌∷◌, ◌++◌, map, filter, length, take, drop, ◌==◌, nat_le, nat_lt, if◌then◌else◌, Some, None, Option}
+use Rattle.std.specs.List.{range_with_len}
 use Rattle.byte_valued.specs.LittleEndian.{bytes_of, number_of}
 use Rattle.bitmap.specs.Pages.{Meaning, top, ceiling, dirty, with_bits}
 use Rattle.volatile_memory.specs.Faults.{Answer, uncovered, no_room, bad_parcel}
@@ -16,8 +17,7 @@ page_length p n q = min p (n - q * p)
 
 -- the pages below n that are dirty by d, rising
 unfoldable pub dirty_below : (ℕ → Bool) → ℕ → List ℕ
-dirty_below d zero = []
-dirty_below d (suc n) = dirty_below d n ++ cond (d n) (n ∷ []) []
+dirty_below d n = filter d (range_with_len 0 n)
 
 -- the dirty pages of a memory
 abbrev pub dirty_pages : Meaning → List ℕ → List ℕ

@@ -1,5 +1,6 @@
 -- Taking and applying, step by step. Assumes nothing.
-use Rattle.std.specs.Prelude.{◌≡◌, ℕ, zero, suc, ◌+◌, ◌*◌, ◌<◌, min, Bool, cond, not, ◌&&◌, ◌||◌, List, [], ◌∷◌, length, drop, ◌==◌, nat_le, nat_lt, if◌then◌else◌, Some, None, Option}
+use Rattle.std.specs.Prelude.{◌≡◌, ℕ, ◌+◌, ◌*◌, ◌<◌, min, Bool, cond, not, ◌&&◌, ◌||◌, List, [], ◌∷◌, filter, length, drop, ◌==◌, nat_le, nat_lt, if◌then◌else◌, Some, None, Option}
+use Rattle.std.specs.List.{range_with_len, AllByRecursion}
 use Rattle.bitmap.specs.Pages.{Meaning}
 use Rattle.volatile_memory.specs.Faults.{Answer, uncovered, bad_parcel}
 use Rattle.volatile_memory.specs.Faults.Answer.{gives, refuses}
@@ -7,8 +8,7 @@ use Rattle.parcel.specs.Parcels.{pages, page_length, covered, number_at, numbers
 
 -- the dirty ones by d of k pages from m on, rising
 abbrev pub dirty_from : (ℕ → Bool) → ℕ → ℕ → List ℕ
-dirty_from d m zero = []
-dirty_from d m (suc k) = cond (d m) (m ∷ dirty_from d (m + 1) k) (dirty_from d (m + 1) k)
+dirty_from d m k = filter d (range_with_len m k)
 
 -- the bitmap has every page of a memory
 abbrev pub cover : Meaning → List ℕ → Answer ℕ
@@ -51,8 +51,7 @@ length_rule n owed = cond (n == owed) (gives 0) (refuses (bad_parcel 6 (min n ow
 
 -- each is a page of n
 abbrev pub Below : ℕ → List ℕ → Type 0
-Below n [] = Unit {0}
-Below n (q ∷ qs) = (q < n) × Below n qs
+Below n qs = AllByRecursion (λ q. q < n) qs
 
 -- all six rules, for a copy of n bytes: the first that a parcel breaks
 unfoldable pub rules : ℕ → List ℕ → Answer ℕ

@@ -1,5 +1,6 @@
 //! The pages that a parcel carries.
 ghost use Rattle.std.specs.Prelude.{◌≡◌, ◌+◌, ◌^◌, ◌<◌, ◌&&◌, length, nat_le, nat_lt, IfOk};
+ghost use Rattle.std.proofs.Props.{props};
 ghost use Rattle.volatile_memory.specs.Faults.{said};
 ghost use Rattle.volatile_memory.specs.Faults.Answer.{gives};
 ghost use Rattle.parcel.specs.Parcels.{pages, page_length, numbers_of, sum_of, laid_pages, unless};
@@ -57,6 +58,7 @@ impl<'a> Carried<'a> {
         // Their bytes together are no more than the memory's, and those are a number of 64 bits.
         let _total = self.layout.total;
         let count = self.layout.count();
+        // A fold would be no plainer: its state is these two numbers, and a refusal leaves it early with a place.
         let mut low = 0;
         let mut bytes = 0;
         let numbers = Numbers::new(self.numbers);
@@ -85,27 +87,36 @@ impl<'a> Carried<'a> {
     }
 
     // A parcel has to keep all rules, for a memory of `total` bytes.
-    pub(crate) fn check(parcel: &'a [u8], total: usize) -> Result<Carried<'a>, Error>
+    pub(crate) fn check(parcel: &'a [u8], total: usize) -> Result<Checked<'a>, Error>
         ensures answer { said (λ _. 0) result ≡ rules total parcel.now }
-        ensures carried { IfOk result (λ c. Carries total parcel.now c.layout.page_size.value c.layout.total c.numbers.now c.bytes.now) }
+        ensures carried { IfOk result (λ c. Carries total parcel.now c.carried.layout.page_size.value c.carried.layout.total c.carried.numbers.now c.carried.bytes.now) }
     {
         let pages = Carried::read(parcel, total)?;
         let owed = pages.check_numbers()?;
         pages.check_length(owed)?;
-        Ok(pages)
+        Ok(Checked { carried: pages })
     }
+}
 
+/// The pages of a parcel that keeps all rules: they are pages of the memory, and their bytes are all there.
+#[derive(Drop)]
+pub(crate) struct Checked<'a> {
+    carried: Carried<'a>,
+    ghost below: { Below (pages carried.layout.total carried.layout.page_size.value) (numbers_of carried.numbers.now) } by { Prim.hlevel props },
+    ghost whole: { length carried.bytes.now ≡ sum_of (page_length carried.layout.page_size.value carried.layout.total) (numbers_of carried.numbers.now) },
+}
+
+impl<'a> Checked<'a> {
     // Lays the pages at their places.
     pub(crate) fn lay(&self, copy: &mut [u8])
-        requires total { self.now.layout.total ≡ length copy.old }
-        requires below { Below (pages self.now.layout.total self.now.layout.page_size.value) (numbers_of self.now.numbers.now) }
-        requires whole { length self.now.bytes.now ≡ sum_of (page_length self.now.layout.page_size.value self.now.layout.total) (numbers_of self.now.numbers.now) }
-        ensures { copy.new ≡ laid_pages copy.old self.now.layout.page_size.value (numbers_of self.now.numbers.now) self.now.bytes.now }
+        requires { self.now.carried.layout.total ≡ length copy.old }
+        ensures { copy.new ≡ laid_pages copy.old self.now.carried.layout.page_size.value (numbers_of self.now.carried.numbers.now) self.now.carried.bytes.now }
     {
-        let mut rest = self.bytes;
-        for page in Numbers::new(self.numbers) {
-            let (bytes, others) = rest.split_at(self.layout.size(page));
-            lay(copy, self.layout.start(page), bytes);
+        let pages = &self.carried;
+        let mut rest = pages.bytes;
+        for page in Numbers::new(pages.numbers) {
+            let (bytes, others) = rest.split_at(pages.layout.size(page));
+            lay(copy, pages.layout.start(page), bytes);
             rest = others;
         }
     }

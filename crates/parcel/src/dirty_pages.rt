@@ -116,6 +116,7 @@ impl<'a, B: CleanBitmap> DirtyPages<'a, B> {
     {
         let layout = self.layout();
         let mut length = HEAD;
+        // Counted in the same pass: `count` would look at every page of the bitmap a second time.
         let mut pages = 0;
         for page in self.numbers() {
             length = length

@@ -1,6 +1,6 @@
-use Rattle.std.proofs.Common.{length, refl}
+use Rattle.std.proofs.Common.{refl}
 use Rattle.std.proofs.lemmas.Result.{err_from_is_err_and}
-use Rattle.parcel.proofs.AppliedSteps.{kept_rules, rules-applied}
+use Rattle.parcel.proofs.AppliedSteps.{rules-applied}
 use Rattle.parcel.proofs.applying.apply.Goals as goal
 
 pub returns-in_err-pages : goal.returns-in_err-pages
@@ -10,10 +10,7 @@ returns-in_err-pages c =
     rw (p.1, p.2, e, ← c.in_err-pages.ensures.answer) (record { answer = refl; after = refl })
 
 pub lay-requires : goal.lay-requires
-lay-requires c =
-    let is = c.in_ok-pages.ensures.carried in
-    let k = kept_rules (length c.args.copy.now) c.args.parcel.now _ _ _ _ is c.in_ok-pages.ensures.answer in
-    record { total = is.total_is; below = k.0; whole = k.1 }
+lay-requires c = c.in_ok-pages.ensures.carried.total_is
 
 pub returns : goal.returns
 returns c =

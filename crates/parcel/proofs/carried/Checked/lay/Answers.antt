@@ -2,18 +2,18 @@ use Rattle.std.proofs.Common.{◌≡◌, ℕ, ◌*◌, List, ap, ◌∙◌, arit
 use Rattle.parcel.specs.Parcels.{pages, page_length, numbers_of, sum_of, laid_pages}
 use Rattle.parcel.proofs.PageNumbers.{below_next, lay_next}
 use Rattle.parcel.proofs.PagePlaces.{page_begins}
-use Rattle.parcel.proofs.carried.Carried.lay.Goals as goal
+use Rattle.parcel.proofs.carried.Checked.lay.Goals as goal
 
 pub split_at-requires : goal.split_at-requires
 split_at-requires c =
-    omega (arith, c.loop-page.invariant.whole, ap (sum_of (page_length c.args.self.now.layout.page_size.value c.args.self.now.layout.total)) c.in-Some.ensures.steps, c.size.ensures)
+    omega (arith, c.loop-page.invariant.whole, ap (sum_of (page_length c.args.self.now.carried.layout.page_size.value c.args.self.now.carried.layout.total)) c.in-Some.ensures.steps, c.size.ensures)
 
 pub lay-requires : goal.lay-requires
 lay-requires c = omega (arith, c.start.ensures, c.size.ensures, c.split_at.ensures.front_len)
 
 pub loop-page-preserved : goal.loop-page-preserved
 loop-page-preserved c =
-    let layout = c.args.self.now.layout in
+    let layout = c.args.self.now.carried.layout in
     let p : ℕ = layout.page_size.value in
     let q : ℕ = c.in-Some.page in
     let left : List ℕ = numbers_of c.next.new.self.bytes.now in
