@@ -5,10 +5,8 @@ use Rattle.std.proofs.lemmas.Bool.Decides.{nat_tests}
 use Rattle.bitmap.specs.Pages.{ceiling}
 use Rattle.bitmap.proofs.PageLaws.{ceiling_le}
 use Rattle.volatile_memory.specs.Faults.Answer.{gives}
-use Rattle.parcel.specs.Parcels.{dirty_below, pages, words, head, bodies, parcel, number_at, numbers, page_length, sum_of, laid_pages, applied}
-use Rattle.parcel.specs.Rules.{wrong_among}
+use Rattle.parcel.specs.Parcels.{dirty_below, pages, words, head, bodies, parcel, number_at, numbers, page_length, sum_of, laid_pages, applied, wrong_among}
 use Rattle.parcel.proofs.DirtyList.{dirty_count}
-use Rattle.parcel.proofs.PageNumbers.{wrong_listed}
 use Rattle.parcel.proofs.WrittenPages.{length-head, length-parcel}
 use Rattle.mirror.proofs.WrittenNumbers.{Small, words_read}
 use Rattle.mirror.proofs.DirtyList.{Chain, dirty_chain, dirty_has}
@@ -29,7 +27,7 @@ applied_accepts copy bs qs body p n h e read c few long left =
     let count : number_at bs 1 ≡ length qs = cc in
     let total : number_at bs 2 ≡ n = cc in
     let pages_are : numbers bs 3 (length qs) ≡ qs = cc in
-    let pass = wrong_listed bs (ceiling n p) 0 3 (length qs) ∙ ap (wrong_among (ceiling n p) 0 3) pages_are ∙ right_passes qs (ceiling n p) 0 3 c in
+    let pass = ap (wrong_among (ceiling n p) 0 3) pages_are ∙ right_passes qs (ceiling n p) 0 3 c in
     grind (arith, nat_tests)
 
 chain_small : (low n : ℕ) (qs : List ℕ) → n < 2 ^ 64 → Chain low n qs → Small qs

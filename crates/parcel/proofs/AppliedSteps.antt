@@ -6,10 +6,10 @@ use Rattle.std.proofs.lemmas.List.{drop-drop}
 use Rattle.bitmap.specs.Pages.{page_size}
 use Rattle.volatile_memory.specs.Faults.{Fault, Answer, bad_parcel}
 use Rattle.volatile_memory.specs.Faults.Answer.{gives, refuses}
-use Rattle.parcel.specs.Parcels.{pages, page_length, number_at, numbers, numbers_of, wrong_from, sum_of, laid_pages, unless, applied}
-use Rattle.parcel.specs.Rules.{head_of, head_rules, length_rule, rules, wrong_among, Below, Carries}
+use Rattle.parcel.specs.Parcels.{pages, page_length, number_at, numbers, numbers_of, wrong_among, sum_of, laid_pages, unless, applied}
+use Rattle.parcel.specs.Rules.{head_of, head_rules, length_rule, rules, Below, Carries}
 use Rattle.parcel.proofs.Refusals.{gives-refuses}
-use Rattle.parcel.proofs.PageNumbers.{numbers_carried, wrong_listed, right_below}
+use Rattle.parcel.proofs.PageNumbers.{numbers_carried, right_below}
 
 -- a page size that was made is the number that it was made of
 pub size_made : (n p : ℕ) → Some p ≡ page_size n → p ≡ n
@@ -72,7 +72,7 @@ same_length n y bs is =
 module _ (n : ℕ) (bs : List ℕ) where
   -- rules 5 and 6, for a memory of m bytes
   behind : ℕ → Answer ℕ
-  behind m = unless (wrong_from bs (pages m (number_at bs 0)) 0 3 (number_at bs 1)) (length_rule (length bs) (24 + 8 * number_at bs 1 + sum_of (page_length (number_at bs 0) n) (numbers bs 3 (number_at bs 1))))
+  behind m = unless (wrong_among (pages m (number_at bs 0)) 0 3 (numbers bs 3 (number_at bs 1))) (length_rule (length bs) (24 + 8 * number_at bs 1 + sum_of (page_length (number_at bs 0) n) (numbers bs 3 (number_at bs 1))))
 
   pub rules-head : (f : Fault) → refuses f ≡ head_rules n bs → rules n bs ≡ refuses f
   unfolding rules behind
@@ -84,8 +84,8 @@ module _ (n : ℕ) (bs : List ℕ) where
     past_head = ap (λ a. unless a (behind (number_at bs 2))) (sym head_right) ∙ ap behind (same_length n 0 bs head_right)
 
     -- the list of the page numbers, as the parcel has it
-    listed : wrong_among (pages total p) 0 3 (numbers_of ns) ≡ wrong_from bs (pages n (number_at bs 0)) 0 3 (number_at bs 1)
-    listed = rw (c.total_is, c.page_is, c.numbers_are) (sym (wrong_listed bs (pages n (number_at bs 0)) 0 3 (number_at bs 1)))
+    listed : wrong_among (pages total p) 0 3 (numbers_of ns) ≡ wrong_among (pages n (number_at bs 0)) 0 3 (numbers bs 3 (number_at bs 1))
+    listed = rw (c.total_is, c.page_is, c.numbers_are) refl
 
     abbrev owed : ℕ
     owed = sum_of (page_length p total) (numbers_of ns)
@@ -97,7 +97,7 @@ module _ (n : ℕ) (bs : List ℕ) where
     pub rules-length : (bytes : ℕ) → gives bytes ≡ unless (wrong_among (pages total p) 0 3 (numbers_of ns)) (gives owed) → rules n bs ≡ length_rule (24 + length ns + length rest) (24 + length ns + bytes)
     unfolding behind
     rules-length bytes is =
-        let past = step_passed (wrong_from bs (pages n (number_at bs 0)) 0 3 (number_at bs 1)) bytes owed (rw listed at is) in
+        let past = step_passed (wrong_among (pages n (number_at bs 0)) 0 3 (numbers bs 3 (number_at bs 1))) bytes owed (rw listed at is) in
         let same : bytes ≡ sum_of (page_length (number_at bs 0) n) (numbers bs 3 (number_at bs 1)) = past.0 ∙ rw (c.total_is, c.page_is, c.numbers_are) refl in
         past_head ∙ past.1 _ ∙ rw (c.whole, c.long, same) refl
 
@@ -112,10 +112,10 @@ module _ (n : ℕ) (bs : List ℕ) (p total : ℕ) (ns rest : List ℕ) (c : Car
   unfolding rules
   kept_rules is =
       let k = number_at bs 1 in
-      let first = behind_step (head_rules n bs) (unless (wrong_from bs (pages (number_at bs 2) (number_at bs 0)) 0 3 k) (length_rule (length bs) (24 + 8 * k + sum_of (page_length (number_at bs 0) n) (numbers bs 3 k)))) 0 is in
-      let second = behind_step (wrong_from bs (pages (number_at bs 2) (number_at bs 0)) 0 3 k) (length_rule (length bs) (24 + 8 * k + sum_of (page_length (number_at bs 0) n) (numbers bs 3 k))) 0 first.1 in
+      let first = behind_step (head_rules n bs) (unless (wrong_among (pages (number_at bs 2) (number_at bs 0)) 0 3 (numbers bs 3 k)) (length_rule (length bs) (24 + 8 * k + sum_of (page_length (number_at bs 0) n) (numbers bs 3 k)))) 0 is in
+      let second = behind_step (wrong_among (pages (number_at bs 2) (number_at bs 0)) 0 3 (numbers bs 3 k)) (length_rule (length bs) (24 + 8 * k + sum_of (page_length (number_at bs 0) n) (numbers bs 3 k))) 0 first.1 in
       let same = same_length n first.0.0 bs first.0.1 in
-      let right = second.0.1 ∙ wrong_listed bs (pages (number_at bs 2) (number_at bs 0)) 0 3 k ∙ ap (λ m. wrong_among (pages m (number_at bs 0)) 0 3 (numbers bs 3 k)) same in
+      let right = second.0.1 ∙ ap (λ m. wrong_among (pages m (number_at bs 0)) 0 3 (numbers bs 3 k)) same in
       let whole = length_right (length bs) _ second.1 in
       rw (c.total_is, c.page_is, c.numbers_are) (right_below (pages n (number_at bs 0)) 0 3 second.0.0 (numbers bs 3 k) (sym right), omega (arith, whole, c.whole, c.long))
 
@@ -140,4 +140,4 @@ rules-applied copy bs =
     let k = number_at bs 1 in
     let n = number_at bs 2 in
     let owed = 24 + 8 * k + sum_of (page_length p (length copy)) (numbers bs 3 k) in
-    in_order (ltb (length bs) 24) (eqb p 0) (not (eqb n (length copy))) (ltb (pages n p) k || ltb (length bs) (24 + 8 * k)) (eqb (length bs) owed) (bad_parcel 1 (length bs)) (bad_parcel 2 0) (bad_parcel 3 16) (bad_parcel 4 8) (bad_parcel 6 (min (length bs) owed)) (wrong_from bs (pages n p) 0 3 k) (laid_pages copy p (numbers bs 3 k) (drop (24 + 8 * k) bs))
+    in_order (ltb (length bs) 24) (eqb p 0) (not (eqb n (length copy))) (ltb (pages n p) k || ltb (length bs) (24 + 8 * k)) (eqb (length bs) owed) (bad_parcel 1 (length bs)) (bad_parcel 2 0) (bad_parcel 3 16) (bad_parcel 4 8) (bad_parcel 6 (min (length bs) owed)) (wrong_among (pages n p) 0 3 (numbers bs 3 k)) (laid_pages copy p (numbers bs 3 k) (drop (24 + 8 * k) bs))

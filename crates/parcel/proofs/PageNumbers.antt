@@ -1,5 +1,5 @@
 -- A parcel's page numbers, looked at one by one. Assumes nothing.
-use Rattle.std.proofs.Common.{◌≡◌, ℕ, zero, suc, ◌+◌, ◌-◌, ◌*◌, ◌/◌, ◌<◌, ◌≤◌, min, true, cond, ◌&&◌, ltb, leb, Some, None, Option, List, [], ◌∷◌, length, take, drop, sym, refl, ap, ap₂, ◌∙◌, subst, inl, inr, mul-le-mul_right, suc-mul, arith, length-drop, length-take}
+use Rattle.std.proofs.Common.{◌≡◌, ℕ, zero, suc, ◌+◌, ◌-◌, ◌*◌, ◌/◌, ◌<◌, ◌≤◌, min, true, ◌&&◌, ltb, leb, Some, None, Option, List, [], ◌∷◌, length, take, drop, sym, refl, ap, ap₂, ◌∙◌, subst, inl, inr, mul-le-mul_right, suc-mul, arith, length-drop, length-take}
 use Rattle.std.specs.List.{slice_get}
 use Rattle.std.proofs.lemmas.Option.{none-some, slice_get_past}
 use Rattle.std.proofs.lemmas.Bool.Decides.{nat_tests}
@@ -7,11 +7,10 @@ use Rattle.std.proofs.lemmas.List.{drop-drop, drop-take, take-take}
 use Rattle.std.proofs.lemmas.Bool.{cases_Bool, cases_lt, le-ltb, lt-ltb, le-leb, cond-true, cond-false, and_parts, leb-true, ltb-true, ltb-false}
 use Rattle.byte_valued.specs.Buffers.{made_of}
 use Rattle.byte_valued.specs.LittleEndian.{number_of}
-use Rattle.volatile_memory.specs.Faults.{bad_parcel}
-use Rattle.volatile_memory.specs.Faults.Answer.{gives, refuses}
+use Rattle.volatile_memory.specs.Faults.Answer.{gives}
 use Rattle.volatile_memory.specs.Memory.{part, overlaid}
-use Rattle.parcel.specs.Parcels.{number_at, numbers, numbers_of, page_number, page_numbers, wrong_from, page_length, laid_pages}
-use Rattle.parcel.specs.Rules.{Below, first_of, head_of, wrong_among}
+use Rattle.parcel.specs.Parcels.{number_at, numbers, numbers_of, page_number, page_numbers, wrong_among, page_length, laid_pages}
+use Rattle.parcel.specs.Rules.{Below, first_of, head_of}
 use Rattle.parcel.proofs.Refusals.{gives-refuses}
 
 pub length-numbers : (bs : List ℕ) (i k : ℕ) → length (numbers bs i k) ≡ k
@@ -117,12 +116,6 @@ nth_page bs i =
       | inl below ↦ nth_number bs 3 k i below ∙ rw (lt-ltb i (number_at bs 1) (omega arith), le-leb (24 + 8 * (i + 1)) (length bs) (omega arith)) refl
       | inr past ↦ let none = slice_get_past (page_numbers bs) i (omega (arith, length-numbers bs 3 k)) in grind (arith, nat_tests)
     ]
-
--- rule 5 over the list of the page numbers
-pub wrong_listed : (bs : List ℕ) (n low i k : ℕ) → wrong_from bs n low i k ≡ wrong_among n low i (numbers bs i k)
-wrong_listed bs n low i zero = refl
-wrong_listed bs n low i (suc k) =
-    ap (λ a. cond (leb low (number_at bs i) && ltb (number_at bs i) n) a (refuses (bad_parcel 5 (i * 8)))) (wrong_listed bs n (number_at bs i + 1) (i + 1) k)
 
 -- numbers that rise below n are pages of n
 pub right_below : (n low i x : ℕ) (qs : List ℕ) → wrong_among n low i qs ≡ gives x → Below n qs

@@ -83,11 +83,10 @@ page_numbers bs = numbers bs 3 (min (number_at bs 1) ((length bs - 24) / 8))
 abbrev pub numbers_of : List ℕ → List ℕ
 numbers_of bs = numbers bs 0 (length bs / 8)
 
--- the first of k page numbers from the i-th on that is no page of n, or below `low` (one more than the page before, 0 at first), by its place
-abbrev pub wrong_from : List ℕ → ℕ → ℕ → ℕ → ℕ → Answer ℕ
-wrong_from bs n low i zero = gives 0
-wrong_from bs n low i (suc k) =
-    let q = number_at bs i in cond (nat_le low q && nat_lt q n) (wrong_from bs n (q + 1) (i + 1) k) (refuses (bad_parcel 5 (i * 8)))
+-- the first of some page numbers that is no page of n, or below `low` (one more than the page before, 0 at first), by its place; the first of them is the i-th number
+abbrev pub wrong_among : ℕ → ℕ → ℕ → List ℕ → Answer ℕ
+wrong_among n low i [] = gives 0
+wrong_among n low i (q ∷ qs) = cond (nat_le low q && nat_lt q n) (wrong_among n (q + 1) (i + 1) qs) (refuses (bad_parcel 5 (i * 8)))
 
 abbrev pub sum_of : (ℕ → ℕ) → List ℕ → ℕ
 sum_of f [] = 0
@@ -113,6 +112,6 @@ applied copy bs =
     (cond (p == 0) (refuses (bad_parcel 2 0))
     (cond (not (n == length copy)) (refuses (bad_parcel 3 16))
     (cond (nat_lt (pages n p) k || nat_lt (length bs) (24 + 8 * k)) (refuses (bad_parcel 4 8))
-    (unless (wrong_from bs (pages n p) 0 3 k)
+    (unless (wrong_among (pages n p) 0 3 qs)
     (cond (not (length bs == owed)) (refuses (bad_parcel 6 (min (length bs) owed)))
     (gives (laid_pages copy p qs (drop (24 + 8 * k) bs))))))))

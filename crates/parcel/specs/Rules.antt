@@ -1,10 +1,10 @@
 -- Taking and applying, step by step. Assumes nothing.
-use Rattle.std.specs.Prelude.{◌≡◌, ℕ, ◌+◌, ◌*◌, ◌<◌, min, Bool, cond, not, ◌&&◌, ◌||◌, List, [], ◌∷◌, filter, length, drop, ◌==◌, nat_le, nat_lt, if◌then◌else◌, Some, None, Option}
+use Rattle.std.specs.Prelude.{◌≡◌, ℕ, ◌+◌, ◌*◌, ◌<◌, min, Bool, cond, not, ◌||◌, List, filter, length, drop, ◌==◌, nat_lt, if◌then◌else◌, Some, None, Option}
 use Rattle.std.specs.List.{range_with_len, AllByRecursion}
 use Rattle.bitmap.specs.Pages.{Meaning}
 use Rattle.volatile_memory.specs.Faults.{Answer, uncovered, bad_parcel}
 use Rattle.volatile_memory.specs.Faults.Answer.{gives, refuses}
-use Rattle.parcel.specs.Parcels.{pages, page_length, covered, number_at, numbers, numbers_of, wrong_from, sum_of, unless}
+use Rattle.parcel.specs.Parcels.{pages, page_length, covered, number_at, numbers, numbers_of, wrong_among, sum_of, unless}
 
 -- the dirty ones by d of k pages from m on, rising
 abbrev pub dirty_from : (ℕ → Bool) → ℕ → ℕ → List ℕ
@@ -31,11 +31,6 @@ head_rules n bs =
     (cond (nat_lt (pages (number_at bs 2) (number_at bs 0)) (number_at bs 1) || nat_lt (length bs) (24 + 8 * number_at bs 1)) (refuses (bad_parcel 4 8))
     (gives 0))))
 
--- rule 5, of page numbers of which the first is the i-th number
-abbrev pub wrong_among : ℕ → ℕ → ℕ → List ℕ → Answer ℕ
-wrong_among n low i [] = gives 0
-wrong_among n low i (q ∷ qs) = cond (nat_le low q && nat_lt q n) (wrong_among n (q + 1) (i + 1) qs) (refuses (bad_parcel 5 (i * 8)))
-
 -- the pages that a parcel carries for a memory of n bytes: their size, the memory's length, the bytes of their numbers, and their bytes
 pub record Carries (n : ℕ) (bs : List ℕ) (page total : ℕ) (words bodies : List ℕ) : Type 0 where
   pub page_is : page ≡ number_at bs 0
@@ -57,7 +52,7 @@ Below n qs = AllByRecursion (λ q. q < n) qs
 unfoldable pub rules : ℕ → List ℕ → Answer ℕ
 rules n bs =
     let p = number_at bs 0 in let k = number_at bs 1 in
-    unless (head_rules n bs) (unless (wrong_from bs (pages (number_at bs 2) p) 0 3 k) (length_rule (length bs) (24 + 8 * k + sum_of (page_length p n) (numbers bs 3 k))))
+    unless (head_rules n bs) (unless (wrong_among (pages (number_at bs 2) p) 0 3 (numbers bs 3 k)) (length_rule (length bs) (24 + 8 * k + sum_of (page_length p n) (numbers bs 3 k))))
 
 -- what a parcel says of itself, unless it breaks a rule: the page size, how many pages it carries, the memory's length
 abbrev pub inspected : List ℕ → Answer (ℕ × ℕ × ℕ)

@@ -3,8 +3,8 @@ ghost use Rattle.std.specs.Prelude.{◌≡◌, ◌+◌, ◌^◌, ◌<◌, ◌&&�
 ghost use Rattle.std.proofs.Props.{props};
 ghost use Rattle.volatile_memory.specs.Faults.{said};
 ghost use Rattle.volatile_memory.specs.Faults.Answer.{gives};
-ghost use Rattle.parcel.specs.Parcels.{pages, page_length, numbers_of, sum_of, laid_pages, unless};
-ghost use Rattle.parcel.specs.Rules.{head_rules, length_rule, rules, wrong_among, Below, Carries};
+ghost use Rattle.parcel.specs.Parcels.{pages, page_length, numbers_of, sum_of, laid_pages, unless, wrong_among};
+ghost use Rattle.parcel.specs.Rules.{head_rules, length_rule, rules, Below, Carries};
 
 use crate::contents::{Contents, HEAD, broken};
 use crate::layout::Layout;

@@ -1,6 +1,5 @@
 use Rattle.std.proofs.Common.{◌≡◌, ◌+◌, ◌*◌, ◌≤◌, min, length}
-use Rattle.parcel.specs.Parcels.{page_length, numbers_of, sum_of}
-use Rattle.parcel.specs.Rules.{wrong_among}
+use Rattle.parcel.specs.Parcels.{page_length, numbers_of, sum_of, wrong_among}
 use Rattle.parcel.proofs.carried.Carried.check_numbers.Given as goal
 
 abbrev pub invariant-loop-index : goal.invariant-loop-index
