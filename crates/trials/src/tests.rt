@@ -4,7 +4,7 @@ use byte_valued::{AtomicAccess, ByteValued, LineHead};
 use std::test::Fail;
 
 // A page size that a test is run with.
-pub fn page_size(bytes: usize) -> Result<PageSize, Fail> {
+pub(crate) fn page_size(bytes: usize) -> Result<PageSize, Fail> {
     PageSize::new(bytes).ok_or_else(|| Fail::new("no page size"))
 }
 
