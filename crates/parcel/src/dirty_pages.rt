@@ -59,6 +59,7 @@ impl<'a, B: CleanBitmap> Iterator for DirtyNumbers<'a, B> {
 }
 
 /// A memory, and the bitmap that tells which of its pages are dirty.
+// No model: the halves of a pair, `.0` and `.1`, would say less in the clauses than the names of the fields.
 #[derive(Drop)]
 pub(crate) struct DirtyPages<'a, B> {
     pub(crate) memory: &'a [u8],
