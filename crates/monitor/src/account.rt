@@ -1,5 +1,5 @@
 //! The marks of a trace, and the account of them.
-ghost use Rattle.std.specs.Prelude.{◌≡◌, ℕ, ◌^◌, ◌<◌, ◌≤◌, not, ◌&&◌, IfOk, OnOk, nat_le, nat_lt};
+ghost use Rattle.std.specs.Prelude.{◌≡◌, ◌^◌, ◌<◌, not, ◌&&◌, IfOk, OnOk};
 ghost use Rattle.bitmap.specs.Pages.{dirty, reaches};
 ghost use Rattle.bitmap.specs.Tracked.{tracked};
 ghost use Rattle.monitor.specs.Marks.{those, dirty_count, turned as turned_pages, accessed, after, turns, told, Sums, log_of, clean_log, Accounts};
@@ -9,8 +9,7 @@ use crate::trace::{Access, Trace};
 use bitmap::{AtomicBitmap, Bitmap, ByteLog, CleanBitmap, dirty_share};
 use std::alloc::{AllocError, Global};
 use std::fmt;
-use std::ops::Range;
-use text::{PageMap, PageRanges};
+use text::{HexBytes, PageMap, PageRanges};
 
 // How many bytes of the log stand on a line.
 const BYTES_A_LINE: usize = 16;
@@ -97,24 +96,9 @@ fn mark(heap: Global, map: &mut AtomicBitmap, access: Access) -> Result<PageRang
 fn clean_pages(heap: Global, map: &AtomicBitmap, access: Access) -> Result<PageRanges, AllocError>
     ensures { IfOk result (λ pages. pages ≡ those (λ n. reaches (tracked map.now) access.offset access.len n && not (dirty (tracked map.now) n)) (tracked map.now).count) }
 {
-    reached(map, access)
+    map.page_range(access.offset, access.len)
         .filter(|page| !map.is_bit_set(*page))
         .collect(heap)
-}
-
-// The pages that an access reaches.
-fn reached(map: &AtomicBitmap, access: Access) -> Range<usize>
-    ensures within { result.end ≤ (tracked map.now).count }
-    ensures pages { (n : ℕ) → reaches (tracked map.now) access.offset access.len n ≡ (nat_le result.start n && nat_lt n result.end) }
-{
-    if access.len == 0 {
-        return 0..0;
-    }
-    let page_size = map.page_size().get();
-    let first = access.offset / page_size;
-    // An access past the top of the address space ends there.
-    let last = access.offset.saturating_add(access.len - 1) / page_size;
-    first..last.saturating_add(1).min(map.len())
 }
 
 impl Summary {
@@ -167,7 +151,9 @@ impl fmt::Display for Account {
         let summary = self.summary;
         writeln!(f, "memory: {byte_size} bytes, pages of {page_size} bytes")?;
         writeln!(f, "\naccesses:")?;
-        write_entries(f, self.entries.as_slice())?;
+        for entry in &self.entries {
+            writeln!(f, "  {entry}")?;
+        }
         writeln!(f, "\npages:")?;
         write!(f, "{pages}")?;
         writeln!(f, "\nlog:")?;
@@ -176,26 +162,12 @@ impl fmt::Display for Account {
     }
 }
 
-fn write_entries<W: fmt::Write>(f: &mut fmt::Formatter<W>, entries: &[Entry]) -> fmt::Result {
-    for entry in entries {
-        writeln!(f, "  {entry}")?;
-    }
-    Ok(())
-}
-
+// As a page map's lines, but of bytes: what a line begins with, holds and prints differs, and only the walk is the same.
 fn write_log<W: fmt::Write>(f: &mut fmt::Formatter<W>, bytes: &[u8]) -> fmt::Result {
     let firsts = (0..bytes.len()).step_by(BYTES_A_LINE);
     for (first, line) in firsts.zip(bytes.chunks(BYTES_A_LINE)) {
-        write!(f, "{first:>8} ")?;
-        write_bytes(f, line)?;
-        writeln!(f)?;
-    }
-    Ok(())
-}
-
-fn write_bytes<W: fmt::Write>(f: &mut fmt::Formatter<W>, bytes: &[u8]) -> fmt::Result {
-    for byte in bytes {
-        write!(f, " {byte:02x}")?;
+        let bytes = HexBytes(line);
+        writeln!(f, "{first:>8} {bytes}")?;
     }
     Ok(())
 }

@@ -50,6 +50,7 @@ pub(crate) fn command_of(mut args: env::Args) -> Result<Command, UsageError> {
     let second = args.next();
     let third = args.next();
     let more = args.next().is_some();
+    // Not a slice of the arguments: their texts move into the command, and nothing moves out of a slice.
     match (command.as_str(), first, second, third, more) {
         ("marks", file, None, None, false) => Ok(Command::Marks(file)),
         ("replay", Some(script), None, None, false) => Ok(Command::Replay(script)),

@@ -18,7 +18,7 @@ use std::fmt::Display;
 use std::io::Read;
 use std::process::ExitCode;
 use text::decode;
-use trace::{TraceError, parse};
+use trace::parse;
 
 fn read_input(rt: &HostRuntime) -> anyhow::Result<Vec<u8>> {
     let mut bytes = Vec::new(rt.alloc());
@@ -28,8 +28,7 @@ fn read_input(rt: &HostRuntime) -> anyhow::Result<Vec<u8>> {
 
 // The account of a trace.
 fn marks(heap: Global, bytes: &[u8]) -> anyhow::Result<Account> {
-    let text = decode(bytes).map_err(TraceError::from)?;
-    let trace = parse(heap, text)?;
+    let trace = parse(heap, decode(bytes)?)?;
     Ok(Account::new(heap, &trace)?)
 }
 

@@ -27,6 +27,7 @@ pub(crate) enum TooManyPages {
     #[error("{0} pages of the log, and at most {most} are tracked", most = MOST_PAGES)]
     InLog(usize),
 }
+
 // How many pages of the log a number of bytes takes.
 fn log_pages(byte_size: usize) -> usize
     ensures { result ≡ ceiling byte_size 4096 }

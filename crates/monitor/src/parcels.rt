@@ -1,7 +1,7 @@
 //! Parcels as files: taken from a memory image and its dirty log, applied to a copy, and shown.
 use crate::files::{read_file, write_file};
 use bitmap::ByteLog;
-use parcel::{Contents, apply, inspect, page_number, take};
+use parcel::{Contents, apply, inspect, page_number, parcel_len, take};
 use std::alloc::{AllocError, Global};
 use std::fmt;
 use text::PageRanges;
@@ -59,13 +59,8 @@ impl fmt::Display for Listing {
 // The parcel of the pages that a log has dirty. They are clean in it then.
 fn parcel_of(heap: Global, memory: &[u8], log: &mut [u8]) -> Result<Vec<u8>, ParcelError> {
     let mut bitmap = ByteLog::new(memory.len(), log);
-    // With no room at all, a taking says how much it needs.
-    let needed = match take(memory, &mut bitmap, &mut []) {
-        Err(Refusal::NoRoom { needed }) => needed,
-        Err(refusal) => return Err(refusal.into()),
-        Ok(taken) => taken.length,
-    };
-    let mut parcel = vec![in heap; 0u8; needed]?;
+    let length = parcel_len(memory, &bitmap)?;
+    let mut parcel = vec![in heap; 0u8; length]?;
     let taken = take(memory, &mut bitmap, parcel.as_mut_slice())?;
     parcel.truncate(taken.length);
     Ok(parcel)

@@ -10,8 +10,8 @@ ghost use Rattle.monitor.specs.Texts.{AccessLines, Traces};
 
 use crate::memory::{Memory, TooManyPages};
 use bitmap::PageSize;
-use std::alloc::{AllocError, Global};
-use text::{Line, NotText, NumberError, lines, number};
+use std::alloc::Global;
+use text::{Line, LineError, NumberError, lines, number};
 use thiserror::Error;
 
 /// An access to `len` bytes from `offset` on.
@@ -31,8 +31,6 @@ pub(crate) struct Trace {
 /// What is wrong with a line.
 #[derive(Debug, Drop, Error)]
 pub(crate) enum Fault {
-    #[error("not text")]
-    NotText,
     #[error("the trace ends before SIZE PAGE_SIZE")]
     NoFirstLine,
     #[error("not two fields: {0:?}")]
@@ -45,25 +43,13 @@ pub(crate) enum Fault {
     TooManyPages(TooManyPages),
 }
 
-/// Why a text is no trace: the number of a line, and what is wrong there.
-#[derive(Debug, Drop, Error)]
-pub(crate) enum TraceError {
-    #[error("line {0}: {1}")]
-    Line(usize, Fault),
-    #[error(transparent)]
-    OutOfMemory(#[from(alloc)] AllocError),
-}
-
-impl From<NotText> for TraceError {
-    fn from(error: NotText) -> TraceError {
-        TraceError::Line(error.line, Fault::NotText)
-    }
-}
+/// Why a text is no trace.
+pub(crate) type TraceError = LineError<Fault>;
 
 // A field that is no number.
 fn not_number(heap: Global, line: &Line, error: NumberError, field: &str) -> TraceError {
-    String::from_str(heap, field).map_or_else(TraceError::OutOfMemory, |field| {
-        TraceError::Line(line.number, Fault::NotNumber(error, field))
+    String::from_str(heap, field).map_or_else(LineError::OutOfMemory, |field| {
+        LineError::Line(line.number, Fault::NotNumber(error, field))
     })
 }
 
@@ -81,7 +67,7 @@ fn numbers_of(heap: Global, line: &Line) -> Result<(usize, usize), TraceError>
     let mut fields = line.text.split_whitespace();
     let (Some(first), Some(second), None) = (fields.next(), fields.next(), fields.next()) else {
         let text = String::from_str(heap, line.text)?;
-        return Err(TraceError::Line(line.number, Fault::NotTwoFields(text)));
+        return Err(LineError::Line(line.number, Fault::NotTwoFields(text)));
     };
     Ok((
         number_of(heap, line, first)?,
@@ -100,10 +86,11 @@ fn memory_of(heap: Global, line: &Line) -> Result<Memory, TraceError>
     ensures { IfOk result (λ m. TwoNumbers line.now.text.now m.byte_size m.page_size.value) }
 {
     let (byte_size, page_size) = numbers_of(heap, line)?;
+    // A `let`, since the proof has a name for the page size only where a pattern gives one.
     let Some(page_size) = PageSize::new(page_size) else {
-        return Err(TraceError::Line(line.number, Fault::NoPageSize));
+        return Err(LineError::Line(line.number, Fault::NoPageSize));
     };
-    Memory::new(byte_size, page_size).map_err(|pages| TraceError::Line(
+    Memory::new(byte_size, page_size).map_err(|pages| LineError::Line(
         line.number,
         Fault::TooManyPages(pages),
     ))
@@ -126,9 +113,9 @@ pub(crate) fn parse(heap: Global, text: &str) -> Result<Trace, TraceError>
     ensures { IfOk result (λ t. Traces text.now t) }
 {
     let lines = lines(heap, text)?;
+    // A `let`, since what `ok_or_else` gives is not known to be the first line and the rest.
     let Some((first, rest)) = lines.as_slice().split_first() else {
-        let end = text.lines().count() + 1;
-        return Err(TraceError::Line(end, Fault::NoFirstLine));
+        return Err(LineError::at_end(text, Fault::NoFirstLine));
     };
     let memory = memory_of(heap, first)?;
     let accesses = accesses_of(heap, rest)?;

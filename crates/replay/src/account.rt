@@ -6,16 +6,15 @@ ghost use Rattle.script.specs.Scripts.{listed};
 ghost use Rattle.replay.specs.Played.{told, Played};
 
 use crate::answer::Answer;
-use crate::claims::Claims;
 use crate::comparison::Difference;
-use crate::fault::{Fault, Halt, ReplayError};
+use crate::fault::{Fault, Halt, PlayError, ReplayError};
 use crate::guest::Guest;
-use crate::player::{Player, first_views};
+use crate::player::Player;
 use bitmap::AtomicBitmap;
 use script::{Setup, Step, parse};
 use std::alloc::Global;
 use std::fmt;
-use text::PageMap;
+use text::{LineError, PageMap};
 use volatile_memory::{Error, VolatileSlice};
 
 /// A line of a script, its answer or its refusal, and the pages after it.
@@ -35,17 +34,18 @@ pub struct Account {
     difference: Option<Difference>,
 }
 
-// What a step answers, where it is played.
-fn answer_of(player: &mut Player, step: &Step) -> Result<Result<Answer, Error>, ReplayError> {
+// What a step answers, where it is played. A `match`, since a refusal is told as an answer, and all else ends the play.
+fn answer_of(player: &mut Player, step: &Step) -> Result<Result<Answer, Error>, PlayError> {
     match player.play(&step.command) {
         Ok(answer) => Ok(Ok(answer)),
         Err(Halt::Refused(error)) => Ok(Err(error)),
-        Err(Halt::Fault(fault)) => Err(ReplayError::Line(step.number, fault)),
+        Err(Halt::Fault(fault)) => Err(LineError::Line(step.number, fault)),
+        Err(Halt::OutOfMemory(error)) => Err(LineError::Line(step.number, error.into())),
     }
 }
 
 // Plays a step, and tells what it answered.
-fn entry_of(player: &mut Player, step: &Step) -> Result<Entry, ReplayError>
+fn entry_of(player: &mut Player, step: &Step) -> Result<Entry, PlayError>
     ensures line { IfOk result (λ e. (e.number ≡ step.now.number) × (string_bytes e.text ≡ string_bytes step.now.text)) }
     ensures pages { IfOk result (λ e. Shows (tracked player.new.guest.map) e.pages.pages.items) }
 {
@@ -58,7 +58,7 @@ fn entry_of(player: &mut Player, step: &Step) -> Result<Entry, ReplayError>
     })
 }
 
-fn entries_of(heap: Global, player: &mut Player, steps: &[Step]) -> Result<Vec<Entry>, ReplayError>
+fn entries_of(heap: Global, player: &mut Player, steps: &[Step]) -> Result<Vec<Entry>, PlayError>
     ensures { IfOk result (λ v. told v.items ≡ listed steps.now) }
 {
     let mut entries = Vec::new(heap);
@@ -75,20 +75,13 @@ fn play_all(
     setup: Setup,
     root: VolatileSlice,
     steps: &[Step],
-) -> Result<(Vec<Entry>, Option<Difference>), ReplayError>
+) -> Result<(Vec<Entry>, Option<Difference>), PlayError>
     ensures { IfOk result (λ p. told p.0.items ≡ listed steps.now) }
 {
     let mut words = vec![in heap; 0u64; setup.pages.div_ceil(64)]?;
-    let memory = vec![in heap; 0u8; root.len()]?;
-    let copy = vec![in heap; 0u8; root.len()]?;
-    let views = first_views(heap, root)?;
     let map = AtomicBitmap::new(setup.byte_size, setup.page_size, words.as_mut_slice());
-    let mut player = Player {
-        guest: Guest { heap, memory, map },
-        copy,
-        views,
-        claims: Claims::new(heap),
-    };
+    let guest = Guest::new(heap, root.len(), map)?;
+    let mut player = Player::new(guest, root)?;
     let entries = entries_of(heap, &mut player, steps);
     let difference = player.end();
     Ok((entries?, difference))
@@ -100,7 +93,7 @@ pub fn replay(heap: Global, bytes: &[u8]) -> Result<Account, ReplayError>
 {
     let program = parse(heap, bytes)?;
     let setup = program.setup;
-    let root = VolatileSlice::new(setup.address, setup.byte_size).map_err(|_| ReplayError::Line(
+    let root = VolatileSlice::new(setup.address, setup.byte_size).map_err(|_| LineError::Line(
         setup.line,
         Fault::PastTop,
     ))?;
@@ -121,19 +114,14 @@ impl fmt::Display for Account {
             f,
             "memory: {byte_size} bytes at {address}, pages of {page_size} bytes"
         )?;
-        write_entries(f, self.entries.as_slice())?;
+        for entry in &self.entries {
+            write!(f, "\n{entry}")?;
+        }
         match self.difference {
             None => f.write_str("\ncopy: equals the memory\n"),
             Some(difference) => write!(f, "\ncopy: {difference}\n"),
         }
     }
-}
-
-fn write_entries<W: fmt::Write>(f: &mut fmt::Formatter<W>, entries: &[Entry]) -> fmt::Result {
-    for entry in entries {
-        write!(f, "\n{entry}")?;
-    }
-    Ok(())
 }
 
 impl fmt::Display for Entry {

@@ -1,7 +1,7 @@
 //! What a call answered.
 use script::Value;
 use std::fmt;
-use text::PageRanges;
+use text::{HexBytes, PageRanges};
 
 /// The answer of a call.
 #[derive(Drop)]
@@ -26,7 +26,11 @@ impl fmt::Display for Answer {
             Answer::Done => f.write_str("done"),
             Answer::Size(n) => write!(f, "answer: {n} bytes"),
             Answer::Halves(m, n) => write!(f, "answer: {m} and {n} bytes"),
-            Answer::Bytes(bytes) => write_bytes(f, bytes.as_slice()),
+            Answer::Bytes(bytes) => {
+                let n = bytes.len();
+                let bytes = HexBytes(bytes.as_slice());
+                write!(f, "answer: {n} bytes{bytes}")
+            }
             Answer::One(value) => write!(f, "answer: {value}"),
             Answer::Many(values) => write_values(f, values.as_slice()),
             Answer::Taken {
@@ -40,15 +44,6 @@ impl fmt::Display for Answer {
             }
         }
     }
-}
-
-fn write_bytes<W: fmt::Write>(f: &mut fmt::Formatter<W>, bytes: &[u8]) -> fmt::Result {
-    let n = bytes.len();
-    write!(f, "answer: {n} bytes")?;
-    for byte in bytes {
-        write!(f, " {byte:02x}")?;
-    }
-    Ok(())
 }
 
 fn write_values<W: fmt::Write>(f: &mut fmt::Formatter<W>, values: &[Value]) -> fmt::Result {

@@ -90,17 +90,60 @@ fn array_of<T: Element>(view: &VolatileSlice) -> Result<VolatileArrayRef<T>, Err
     view.get_array_ref::<T>(0, count)
 }
 
+impl Guest<'_> {
+    /// Stores or loads an integer of a kind at an address of a view.
+    pub(crate) fn call_atomic(
+        &mut self,
+        kind: IntegerKind,
+        view: &VolatileSlice,
+        addr: usize,
+        call: AtomicCall,
+    ) -> Result<Answer, Halt> {
+        of_integer!(kind, typed_atomic(self, view, addr, call))
+    }
+
+    /// Calls on elements of a kind in a view, or in the reference or array that it was cut for.
+    pub(crate) fn call_elements(
+        &mut self,
+        kind: Kind,
+        view: &VolatileSlice,
+        call: &ElementCall,
+    ) -> Result<Answer, Halt> {
+        of_kind!(kind, typed_call(self, view, call))
+    }
+
+    /// Copies the bytes of an array to a view of the same memory.
+    pub(crate) fn copy_array(
+        &mut self,
+        kind: Kind,
+        from: &VolatileSlice,
+        to: &VolatileSlice,
+    ) -> Result<(), Error> {
+        of_kind!(kind, typed_copy(self, from, to))
+    }
+
+    /// Takes a parcel, applies it to a copy, and loads an element there: that of the reference which the view was cut for.
+    pub(crate) fn refresh_element(
+        &mut self,
+        kind: Kind,
+        view: &VolatileSlice,
+        parcel: &mut [u8],
+        copy: &mut [u8],
+    ) -> Result<(Taken, Value), Error> {
+        of_kind!(kind, typed_refresh(self, view, parcel, copy))
+    }
+}
+
 // The element that a value stands for; a script's values fit.
 fn element<T: Element>(value: Value) -> Result<T, Fault> {
     T::of_value(value).ok_or(Fault::NotFitting)
 }
 
 fn elements<T: Element>(heap: Global, values: &[Value]) -> Result<Vec<T>, Fault> {
-    let all: Result<Vec<T>, Fault> = values
+    values
         .iter()
         .map(|value| element::<T>(*value))
-        .collect(heap)?;
-    all
+        .collect(heap)?
 }
 
 // A buffer of `n` elements.
@@ -108,23 +151,19 @@ fn zeros<T: Element>(heap: Global, n: usize) -> Result<Vec<T>, AllocError> {
     vec![in heap; T::zeroed(); n]
 }
 
-// The first elements of a buffer as values.
-fn values_of<T: Element>(heap: Global, buf: &[T], count: usize) -> Result<Vec<Value>, AllocError> {
-    buf.iter()
-        .take(count)
-        .map(|element| element.to_value())
-        .collect(heap)
+// The answer that is an element.
+fn one<T: Element>(element: T) -> Answer {
+    Answer::One(element.to_value())
 }
 
-/// Stores or loads an integer of a kind at an address of a view.
-pub(crate) fn call_atomic(
-    guest: &mut Guest,
-    kind: IntegerKind,
-    view: &VolatileSlice,
-    addr: usize,
-    call: AtomicCall,
-) -> Result<Answer, Halt> {
-    of_integer!(kind, typed_atomic(guest, view, addr, call))
+// The answer that is the first elements of a buffer.
+fn many<T: Element>(heap: Global, buf: &[T], count: usize) -> Result<Answer, Halt> {
+    let values = buf
+        .iter()
+        .take(count)
+        .map(|element| element.to_value())
+        .collect(heap)?;
+    Ok(Answer::Many(values))
 }
 
 fn typed_atomic<T: Element + AtomicAccess>(
@@ -140,21 +179,8 @@ fn typed_atomic<T: Element + AtomicAccess>(
             view.store(memory, &mut guest.map, element, addr)?;
             Ok(Answer::Done)
         }
-        AtomicCall::Load => {
-            let element = view.load::<T>(memory, addr)?;
-            Ok(Answer::One(element.to_value()))
-        }
+        AtomicCall::Load => { Ok(one(view.load::<T>(memory, addr)?)) }
     }
-}
-
-/// Calls on elements of a kind in a view, or in the reference or array that it was cut for.
-pub(crate) fn call_elements(
-    guest: &mut Guest,
-    kind: Kind,
-    view: &VolatileSlice,
-    call: &ElementCall,
-) -> Result<Answer, Halt> {
-    of_kind!(kind, typed_call(guest, view, call))
 }
 
 fn typed_call<T: Element>(
@@ -188,8 +214,7 @@ fn write_obj<T: Element>(
 }
 
 fn read_obj<T: Element>(guest: &Guest, view: &VolatileSlice, addr: usize) -> Result<Answer, Halt> {
-    let element = view.read_obj::<T>(guest.memory.as_slice(), addr)?;
-    Ok(Answer::One(element.to_value()))
+    Ok(one(view.read_obj::<T>(guest.memory.as_slice(), addr)?))
 }
 
 fn copy_from<T: Element>(
@@ -205,7 +230,7 @@ fn copy_from<T: Element>(
 fn copy_to<T: Element>(guest: &Guest, view: &VolatileSlice, n: usize) -> Result<Answer, Halt> {
     let mut buf = zeros::<T>(guest.heap, n)?;
     let count = view.copy_to(guest.memory.as_slice(), buf.as_mut_slice())?;
-    Ok(Answer::Many(values_of(guest.heap, buf.as_slice(), count)?))
+    many(guest.heap, buf.as_slice(), count)
 }
 
 fn store<T: Element>(
@@ -220,8 +245,8 @@ fn store<T: Element>(
 }
 
 fn load<T: Element>(guest: &Guest, view: &VolatileSlice) -> Result<Answer, Halt> {
-    let element = view.get_ref::<T>(0)?.load(guest.memory.as_slice())?;
-    Ok(Answer::One(element.to_value()))
+    let reference = view.get_ref::<T>(0)?;
+    Ok(one(reference.load(guest.memory.as_slice())?))
 }
 
 fn store_at<T: Element>(
@@ -237,8 +262,8 @@ fn store_at<T: Element>(
 }
 
 fn load_at<T: Element>(guest: &Guest, view: &VolatileSlice, index: usize) -> Result<Answer, Halt> {
-    let element = array_of::<T>(view)?.load(guest.memory.as_slice(), index)?;
-    Ok(Answer::One(element.to_value()))
+    let array = array_of::<T>(view)?;
+    Ok(one(array.load(guest.memory.as_slice(), index)?))
 }
 
 fn array_from<T: Element>(
@@ -255,17 +280,7 @@ fn array_from<T: Element>(
 fn array_to<T: Element>(guest: &Guest, view: &VolatileSlice, n: usize) -> Result<Answer, Halt> {
     let mut buf = zeros::<T>(guest.heap, n)?;
     let count = array_of::<T>(view)?.copy_to(guest.memory.as_slice(), buf.as_mut_slice())?;
-    Ok(Answer::Many(values_of(guest.heap, buf.as_slice(), count)?))
-}
-
-/// Copies the bytes of an array to a view of the same memory.
-pub(crate) fn copy_array(
-    guest: &mut Guest,
-    kind: Kind,
-    from: &VolatileSlice,
-    to: &VolatileSlice,
-) -> Result<(), Error> {
-    of_kind!(kind, typed_copy(guest, from, to))
+    many(guest.heap, buf.as_slice(), count)
 }
 
 fn typed_copy<T: Element>(
@@ -275,17 +290,6 @@ fn typed_copy<T: Element>(
 ) -> Result<(), Error> {
     let array = array_of::<T>(from)?;
     array.copy_to_volatile_slice(guest.memory.as_mut_slice(), to, &mut guest.map)
-}
-
-/// Takes a parcel, applies it to a copy, and loads an element there: that of the reference which the view was cut for.
-pub(crate) fn refresh_element(
-    guest: &mut Guest,
-    kind: Kind,
-    view: &VolatileSlice,
-    parcel: &mut [u8],
-    copy: &mut [u8],
-) -> Result<(Taken, Value), Error> {
-    of_kind!(kind, typed_refresh(guest, view, parcel, copy))
 }
 
 fn typed_refresh<T: Element>(

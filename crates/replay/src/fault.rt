@@ -1,6 +1,7 @@
 //! What keeps a script from being played, and what ends a call.
 use script::ScriptError;
-use std::alloc::{AllocError, AllocFailed, Global};
+use std::alloc::{AllocError, Global};
+use text::LineError;
 use thiserror::Error;
 
 /// Why a command is not played.
@@ -29,27 +30,18 @@ pub(crate) enum Halt {
     Refused(#[from] volatile_memory::Error),
     #[error(transparent)]
     Fault(#[from] Fault),
+    #[error(transparent)]
+    OutOfMemory(#[from(alloc)] AllocError),
 }
 
-impl From<AllocError> for Halt {
-    fn from(error: AllocError) -> Halt {
-        Halt::Fault(error.into())
-    }
-}
+/// Why a script is not played to its end.
+pub(crate) type PlayError = LineError<Fault>;
 
-impl<T: Drop> From<AllocFailed<T>> for Halt {
-    fn from(refused: AllocFailed<T>) -> Halt {
-        Halt::Fault(refused.into())
-    }
-}
-
-/// Why a script has no account: a bad script, a line that is not played, or no memory.
+/// Why a script has no account: it is a bad one, or not played to its end.
 #[derive(Debug, Drop, Error)]
 pub enum ReplayError {
     #[error(transparent)]
     Script(#[from] ScriptError),
-    #[error("line {0}: {1}")]
-    Line(usize, Fault),
     #[error(transparent)]
-    OutOfMemory(#[from(alloc)] AllocError),
+    Play(#[from] LineError<Fault>),
 }

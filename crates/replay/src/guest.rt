@@ -2,9 +2,9 @@
 use crate::answer::Answer;
 use crate::fault::Halt;
 use bitmap::AtomicBitmap;
-use parcel::take;
+use parcel::parcel_len;
 use script::ByteCall;
-use std::alloc::Global;
+use std::alloc::{AllocError, Global};
 use volatile_memory::{Error, VolatileSlice};
 
 /// A memory, and the bitmap of its pages.
@@ -13,6 +13,18 @@ pub(crate) struct Guest<'a> {
     pub(crate) heap: Global,
     pub(crate) memory: Vec<u8>,
     pub(crate) map: AtomicBitmap<'a>,
+}
+
+impl<'a> Guest<'a> {
+    /// A memory of zeros, and the bitmap of its pages.
+    pub(crate) fn new(
+        heap: Global,
+        length: usize,
+        map: AtomicBitmap<'a>,
+    ) -> Result<Guest<'a>, AllocError> {
+        let memory = vec![in heap; 0u8; length]?;
+        Ok(Guest { heap, memory, map })
+    }
 }
 
 impl Guest<'_> {
@@ -70,12 +82,8 @@ impl Guest<'_> {
         from.copy_to_volatile_slice(self.memory.as_mut_slice(), to, &mut self.map)
     }
 
-    /// How many bytes a parcel of the dirty pages has: with no room at all, the refusal says it.
-    pub(crate) fn room_for_parcel(&mut self) -> Result<usize, Error> {
-        match take(self.memory.as_slice(), &mut self.map, &mut []) {
-            Ok(taken) => Ok(taken.length),
-            Err(Error::NoRoom { needed }) => Ok(needed),
-            Err(error) => Err(error),
-        }
+    /// How many bytes a parcel of the dirty pages has.
+    pub(crate) fn parcel_len(&self) -> Result<usize, Error> {
+        parcel_len(self.memory.as_slice(), &self.map)
     }
 }

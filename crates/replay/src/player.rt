@@ -2,9 +2,7 @@
 use crate::answer::Answer;
 use crate::claims::Claims;
 use crate::comparison::Difference;
-use crate::elements::{
-    array, call_atomic, call_elements, copy_array, element_at, reference, refresh_element,
-};
+use crate::elements::{array, element_at, reference};
 use crate::fault::{Fault, Halt, unnamed};
 use crate::guest::Guest;
 use parcel::page_number;
@@ -14,10 +12,10 @@ use std::collections::BTreeMap;
 use volatile_memory::{Error, VolatileSlice};
 
 /// The views that names stand for. A reference or an array is kept as the view that it was cut for.
-pub(crate) type Views = BTreeMap<String, VolatileSlice>;
+type Views = BTreeMap<String, VolatileSlice>;
 
-/// The names before any command.
-pub(crate) fn first_views(heap: Global, root: VolatileSlice) -> Result<Views, AllocError> {
+// The names before any command.
+fn first_views(heap: Global, root: VolatileSlice) -> Result<Views, AllocError> {
     let mut views = BTreeMap::new(heap);
     views.insert(String::from_str(heap, ROOT)?, root)?;
     Ok(views)
@@ -26,9 +24,22 @@ pub(crate) fn first_views(heap: Global, root: VolatileSlice) -> Result<Views, Al
 /// A guest, the copy that a host keeps of its memory, and the views and claims that names stand for. It ends by `end`.
 pub(crate) struct Player<'a> {
     pub(crate) guest: Guest<'a>,
-    pub(crate) copy: Vec<u8>,
-    pub(crate) views: Views,
-    pub(crate) claims: Claims,
+    copy: Vec<u8>,
+    views: Views,
+    claims: Claims,
+}
+
+impl<'a> Player<'a> {
+    /// A guest whose whole memory is a view, with a copy of zeros and no claim.
+    pub(crate) fn new(guest: Guest<'a>, root: VolatileSlice) -> Result<Player<'a>, AllocError> {
+        let heap = guest.heap;
+        Ok(Player {
+            copy: vec![in heap; 0u8; root.len()]?,
+            views: first_views(heap, root)?,
+            claims: Claims::new(heap),
+            guest,
+        })
+    }
 }
 
 impl Player<'_> {
@@ -74,11 +85,11 @@ impl Player<'_> {
                 call,
             } => {
                 let view = self.view(view.as_str())?;
-                call_atomic(&mut self.guest, *kind, &view, *addr, *call)
+                self.guest.call_atomic(*kind, &view, *addr, *call)
             }
             Command::Elements { kind, name, call } => {
                 let view = self.view(name.as_str())?;
-                call_elements(&mut self.guest, *kind, &view, call)
+                self.guest.call_elements(*kind, &view, call)
             }
             Command::Copy { from, kind, to } => self.copy_view(from.as_str(), *kind, to.as_str()),
             Command::Claim { name, call } => self.claim(name.as_str(), call),
@@ -106,7 +117,7 @@ impl Player<'_> {
         let to = self.view(to)?;
         match kind {
             None => self.guest.copy_bytes(&from, &to)?,
-            Some(kind) => copy_array(&mut self.guest, kind, &from, &to)?,
+            Some(kind) => self.guest.copy_array(kind, &from, &to)?,
         }
         Ok(Answer::Done)
     }
@@ -134,10 +145,9 @@ impl Player<'_> {
     fn take(&mut self, kind: Kind, name: &str) -> Result<Answer, Halt> {
         let heap = self.guest.heap;
         let view = self.view(name)?;
-        let room = self.guest.room_for_parcel()?;
-        let mut parcel = vec![in heap; 0u8; room]?;
-        let (taken, element) = refresh_element(
-            &mut self.guest,
+        let length = self.guest.parcel_len()?;
+        let mut parcel = vec![in heap; 0u8; length]?;
+        let (taken, element) = self.guest.refresh_element(
             kind,
             &view,
             parcel.as_mut_slice(),

@@ -40,16 +40,7 @@ impl fmt::Display for Value {
     fn fmt<W: fmt::Write>(&self, f: &mut fmt::Formatter<W>) -> fmt::Result {
         match self {
             Value::Number(n) => write!(f, "{n}"),
-            Value::Head(head) => {
-                let LineHead {
-                    register,
-                    leaf,
-                    line,
-                    left,
-                    width,
-                } = *head;
-                write!(f, "{register} {leaf} {line} {left} {width}")
-            }
+            Value::Head(head) => write!(f, "{head}"),
         }
     }
 }

@@ -139,6 +139,11 @@ impl Names {
             }
             _ => return Err(faulty(self.heap, Complaint::NoElements, name)),
         };
+        self.named_command(kind, name, call)
+    }
+
+    // A call on what a name stands for: a reference or an array of a kind.
+    fn named_command(&self, kind: Kind, name: &str, call: ElementCall) -> Result<Command, Fault> {
         let name = String::from_str(self.heap, name)?;
         Ok(Command::Elements { kind, name, call })
     }
@@ -179,8 +184,7 @@ impl Names {
             }
             _ => return Err(faulty(self.heap, Complaint::NoElements, name)),
         };
-        let name = String::from_str(self.heap, name)?;
-        Ok(Command::Elements { kind, name, call })
+        self.named_command(kind, name, call)
     }
 
     fn copy_from_command(&self, fields: &[&str]) -> Result<Command, Fault> {
@@ -189,10 +193,8 @@ impl Names {
         };
         let Ok(kind) = first.parse::<Kind>() else {
             let kind = self.array_kind(first)?;
-            let name = String::from_str(self.heap, first)?;
             let values = values_of(self.heap, Word::CopyFrom, kind, rest)?;
-            let call = ElementCall::ArrayFrom(values);
-            return Ok(Command::Elements { kind, name, call });
+            return self.named_command(kind, first, ElementCall::ArrayFrom(values));
         };
         let [view, rest @ ..] = rest else {
             return Err(Fault::Form(Word::CopyFrom));
@@ -207,9 +209,8 @@ impl Names {
         match fields {
             [name, n] => {
                 let kind = self.array_kind(name)?;
-                let name = String::from_str(self.heap, name)?;
                 let call = ElementCall::ArrayTo(length_of(self.heap, n)?);
-                Ok(Command::Elements { kind, name, call })
+                self.named_command(kind, name, call)
             }
             [kind, view, n] => {
                 let kind = named::<Kind>(self.heap, kind)?;

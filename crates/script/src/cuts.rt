@@ -10,9 +10,8 @@ impl Names {
     /// The cut that a line's fields after `let` write.
     pub(crate) fn let_command(&mut self, fields: &[&str]) -> Result<Command, Fault> {
         match fields {
-            [first, second, equals, from, word, mid] if *equals == "=" && *word == "split_at" => {
-                self.split_command(first, second, from, mid)
-            }
+            [first, second, equals, from, word, mid] if *equals == "=" && Word::SplitAt.is(word) =>
+                { self.split_command(first, second, from, mid) }
             [name, equals, from, word, rest @ ..] if *equals == "=" => {
                 let (cut, shape) = self.cut_of(named::<Word>(self.heap, word)?, from, rest)?;
                 Ok(Command::Let {

@@ -1,7 +1,7 @@
 //! What is wrong with a script.
 use crate::word::Word;
 use std::alloc::{AllocError, Global};
-use text::{MOST_PAGES, NumberError};
+use text::{LineError, MOST_PAGES, NumberError};
 use thiserror::Error;
 
 /// The most bytes of a memory.
@@ -46,8 +46,6 @@ pub enum Complaint {
 /// What is wrong with a line.
 #[derive(Debug, Drop, Error)]
 pub enum Fault {
-    #[error("not text")]
-    NotText,
     #[error("the script ends before memory SIZE PAGE_SIZE")]
     NoMemory,
     #[error("{0}: {1:?}")]
@@ -78,11 +76,5 @@ pub(crate) fn faulty(heap: Global, complaint: Complaint, part: &str) -> Fault {
     )
 }
 
-/// Why a script has no account: what is wrong with the line of a number, or that there is no memory.
-#[derive(Debug, Drop, Error)]
-pub enum ScriptError {
-    #[error("line {0}: {1}")]
-    Line(usize, Fault),
-    #[error(transparent)]
-    OutOfMemory(#[from(alloc)] AllocError),
-}
+/// Why a script has no account.
+pub type ScriptError = LineError<Fault>;

@@ -100,11 +100,10 @@ pub(crate) fn values_of(
     kind: Kind,
     fields: &[&str],
 ) -> Result<Vec<Value>, Fault> {
-    let values: Result<Vec<Value>, Fault> = fields
+    fields
         .chunks(kind.fields())
         .map(|part| value_of(heap, word, kind, part))
-        .collect(heap)?;
-    values
+        .collect(heap)?
 }
 
 /// The bytes that a field writes: pairs of hexadecimal digits after `0x`, and else its own text.

@@ -6,7 +6,7 @@ use crate::fault::Complaint;
 use std::str::FromStr;
 
 /// A kind of integer.
-#[derive(Clone, Copy)]
+#[derive(Clone, Copy, PartialEq)]
 pub enum IntegerKind {
     U8,
     U16,
@@ -20,7 +20,7 @@ pub enum IntegerKind {
 }
 
 /// A kind of element.
-#[derive(Clone, Copy)]
+#[derive(Clone, Copy, PartialEq)]
 pub enum Kind {
     Integer(IntegerKind),
     LineHead,
@@ -45,7 +45,7 @@ impl IntegerKind {
     // Whether it holds a number.
     pub(crate) fn holds(self, n: i128) -> bool {
         let (least, largest) = self.bounds();
-        least <= n && n <= largest
+        (least..=largest).contains(&n)
     }
 }
 

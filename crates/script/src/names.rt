@@ -8,7 +8,7 @@ use std::collections::BTreeMap;
 pub const ROOT: &str = "root";
 
 /// What a name stands for.
-#[derive(Clone, Copy)]
+#[derive(Clone, Copy, PartialEq)]
 pub(crate) enum Shape {
     View,
     Reference(Kind),
@@ -44,28 +44,30 @@ impl Names {
             .ok_or_else(|| faulty(self.heap, Complaint::NotNamed, name))
     }
 
+    // A name that stands for this, or a complaint.
+    fn of_shape(&self, shape: Shape, complaint: Complaint, name: &str) -> Result<String, Fault> {
+        if self.shape(name)? != shape {
+            return Err(faulty(self.heap, complaint, name));
+        }
+        Ok(String::from_str(self.heap, name)?)
+    }
+
     /// A name that stands for a view.
     pub(crate) fn view(&self, name: &str) -> Result<String, Fault> {
-        match self.shape(name)? {
-            Shape::View => Ok(String::from_str(self.heap, name)?),
-            _ => Err(faulty(self.heap, Complaint::NotView, name)),
-        }
+        self.of_shape(Shape::View, Complaint::NotView, name)
     }
 
     /// The kind of the array that a name stands for.
     pub(crate) fn array_kind(&self, name: &str) -> Result<Kind, Fault> {
-        match self.shape(name)? {
-            Shape::Array(kind) => Ok(kind),
-            _ => Err(faulty(self.heap, Complaint::NotArray, name)),
-        }
+        let Shape::Array(kind) = self.shape(name)? else {
+            return Err(faulty(self.heap, Complaint::NotArray, name));
+        };
+        Ok(kind)
     }
 
     /// A name that stands for a claim.
     pub(crate) fn claim(&self, name: &str) -> Result<String, Fault> {
-        match self.shape(name)? {
-            Shape::Claim => Ok(String::from_str(self.heap, name)?),
-            _ => Err(faulty(self.heap, Complaint::NotClaim, name)),
-        }
+        self.of_shape(Shape::Claim, Complaint::NotClaim, name)
     }
 
     /// Gives a name, which begins with a letter, is no kind of element, and was not given before.
@@ -80,6 +82,7 @@ impl Names {
         if self.shapes.contains_key(name) {
             return Err(faulty(self.heap, Complaint::NamedBefore, name));
         }
+        // The map owns one text of the name, and the command another.
         self.shapes
             .insert(String::from_str(self.heap, name)?, shape)?;
         Ok(String::from_str(self.heap, name)?)

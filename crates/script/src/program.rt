@@ -11,7 +11,7 @@ use crate::names::Names;
 use crate::word::Word;
 use bitmap::PageSize;
 use std::alloc::Global;
-use text::{Line, MOST_PAGES, decode, lines};
+use text::{Line, LineError, MOST_PAGES, decode, lines};
 
 fn new_setup(
     line: usize,
@@ -43,8 +43,8 @@ fn setup_of(heap: Global, line: &Line) -> Result<Setup, Fault>
 {
     let fields: Vec<&str> = line.text.split_whitespace().collect(heap)?;
     let (size, page_size, address) = match fields.as_slice() {
-        [word, size, page] if *word == "memory" => (size, page, "0"),
-        [word, size, page, at, address] if *word == "memory" && *at == "at" => {
+        [word, size, page] if Word::Memory.is(word) => (size, page, "0"),
+        [word, size, page, at, address] if Word::Memory.is(word) && *at == "at" => {
             (size, page, *address)
         }
         _ => return Err(Fault::Form(Word::Memory)),
@@ -66,7 +66,7 @@ fn command_in(names: &mut Names, text: &str) -> Result<Command, Fault> {
 fn step_of(names: &mut Names, line: &Line) -> Result<Step, ScriptError>
     ensures { IfOk result (λ s. (s.number ≡ line.now.number) × (string_bytes s.text ≡ line.now.text.now)) }
 {
-    let command = command_in(names, line.text).map_err(|fault| ScriptError::Line(
+    let command = command_in(names, line.text).map_err(|fault| LineError::Line(
         line.number,
         fault,
     ))?;
@@ -96,7 +96,7 @@ fn check_settled(names: &Names, steps: &[Step]) -> Result<(), ScriptError> {
         };
         if names.is_claim(name) {
             let name = String::from_str(names.heap, name)?;
-            return Err(ScriptError::Line(step.number, Fault::Unsettled(name)));
+            return Err(LineError::Line(step.number, Fault::Unsettled(name)));
         }
     }
     Ok(())
@@ -120,7 +120,7 @@ fn steps_of(heap: Global, lines: &[Line]) -> Result<Vec<Step>, ScriptError>
 pub fn parse(heap: Global, bytes: &[u8]) -> Result<Program, ScriptError>
     ensures { IfOk result (λ p. Scripts bytes.now p) }
 {
-    let text = decode(bytes).map_err(|error| ScriptError::Line(error.line, Fault::NotText))?;
+    let text = decode(bytes)?;
     program_of(heap, text)
 }
 
@@ -129,11 +129,11 @@ fn program_of(heap: Global, text: &str) -> Result<Program, ScriptError>
     ensures { IfOk result (λ p. Scripts text.now p) }
 {
     let lines = lines(heap, text)?;
-    let Some((first, rest)) = lines.as_slice().split_first() else {
-        let end = text.lines().count() + 1;
-        return Err(ScriptError::Line(end, Fault::NoMemory));
-    };
-    let setup = setup_of(heap, first).map_err(|fault| ScriptError::Line(first.number, fault))?;
+    let (first, rest) = lines
+        .as_slice()
+        .split_first()
+        .ok_or_else(|| LineError::at_end(text, Fault::NoMemory))?;
+    let setup = setup_of(heap, first).map_err(|fault| LineError::Line(first.number, fault))?;
     let steps = steps_of(heap, rest)?;
     Ok(Program { setup, steps })
 }

@@ -3,7 +3,7 @@ use crate::fault::Complaint;
 use std::str::FromStr;
 
 /// A word that says what a line asks for.
-#[derive(Clone, Copy, Debug)]
+#[derive(Clone, Copy, PartialEq, Debug)]
 pub enum Word {
     Memory,
     Let,
@@ -65,6 +65,11 @@ impl FromStr for Word {
 }
 
 impl Word {
+    /// Whether a field is the word.
+    pub(crate) fn is(self, field: &str) -> bool {
+        field.parse::<Word>().is_ok_and(|word| word == self)
+    }
+
     // The form of a line with the word.
     pub(crate) fn form(self) -> &'static str {
         match self {

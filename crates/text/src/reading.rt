@@ -3,6 +3,7 @@ ghost use Rattle.std.specs.Prelude.{◌≡◌, ◌+◌, IfOk, MatchResult};
 ghost use Rattle.text.specs.Said.{skips, Says, numbered, breaks, NoText};
 
 use std::alloc::{AllocError, Global};
+use thiserror::Error;
 
 /// A line of a text, by its number from 1 on.
 #[derive(Clone, Copy)]
@@ -36,7 +37,8 @@ pub fn lines<'a>(heap: Global, text: &'a str) -> Result<Vec<Line<'a>>, AllocErro
 }
 
 /// Bytes that are no text: the number of the first line that is none.
-#[derive(Clone, Copy)]
+#[derive(Clone, Copy, Debug, Error)]
+#[error("line {line}: not text")]
 pub struct NotText {
     pub line: usize,
 }

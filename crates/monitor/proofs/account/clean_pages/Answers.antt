@@ -11,7 +11,7 @@ use Rattle.monitor.proofs.account.clean_pages.Goals as goal
 pub returns : goal.returns
 returns c =
     let b = tracked c.args.map.now in
-    let range = c.reached.result in
-    let reaches = c.reached.ensures.pages in
-    let same = sym (those_between range.start range.end (dirty b) b.count c.reached.ensures.within) ∙ those_same _ _ b.count (λ k l. ap (λ t. t && not (dirty b k)) (sym (reaches k))) in
+    let range = c.page_range.result in
+    let reaches = c.page_range.ensures.pages in
+    let same = sym (those_between range.start range.end (dirty b) b.count c.page_range.ensures.within) ∙ those_same _ _ b.count (λ k l. ap (λ t. t && not (dirty b k)) (sym (reaches k))) in
     IfOk-weaker c.collect.result _ _ (λ pages e. e ∙ same) (fact_from_collect (λ (xs : List ℕ) (pages : List ℕ). pages ≡ xs) c.collect.result c.collect.ensures.ran (YieldsList-from_filter _ (λ (n : ℕ). not (dirty b n)) (YieldsList-at c.filter.ensures.source (YieldsList-from_range range.start range.end _ refl refl)) c.filter.ensures.closure (λ x r q k. search rules)))
