@@ -1,7 +1,7 @@
 //! Parcels as files: taken from a memory image and its dirty log, applied to a copy, and shown.
 use crate::files::{read_file, write_file};
 use bitmap::ByteLog;
-use parcel::{Contents, apply, inspect, page_number, parcel_len, take};
+use parcel::{Contents, apply, inspect, page_numbers, parcel_len, take};
 use std::alloc::{AllocError, Global};
 use std::fmt;
 use text::PageRanges;
@@ -28,9 +28,7 @@ struct Listing {
 impl Listing {
     fn new(heap: Global, parcel: &[u8]) -> Result<Listing, ParcelError> {
         let contents = inspect(parcel)?;
-        let pages = (0..contents.pages)
-            .filter_map(|index| page_number(parcel, index))
-            .collect(heap)?;
+        let pages = page_numbers(parcel).collect(heap)?;
         Ok(Listing {
             length: parcel.len(),
             contents,

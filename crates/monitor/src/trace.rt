@@ -86,10 +86,10 @@ fn memory_of(heap: Global, line: &Line) -> Result<Memory, TraceError>
     ensures { IfOk result (λ m. TwoNumbers line.now.text.now m.byte_size m.page_size.value) }
 {
     let (byte_size, page_size) = numbers_of(heap, line)?;
-    // A `let`, since the proof has a name for the page size only where a pattern gives one.
-    let Some(page_size) = PageSize::new(page_size) else {
-        return Err(LineError::Line(line.number, Fault::NoPageSize));
-    };
+    let page_size = PageSize::new(page_size).ok_or_else(|| LineError::Line(
+        line.number,
+        Fault::NoPageSize,
+    ))?;
     Memory::new(byte_size, page_size).map_err(|pages| LineError::Line(
         line.number,
         Fault::TooManyPages(pages),

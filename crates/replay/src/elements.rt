@@ -86,8 +86,7 @@ fn typed_element<T: Element>(view: &VolatileSlice, index: usize) -> Result<Volat
 
 // The array that a view was cut for.
 fn array_of<T: Element>(view: &VolatileSlice) -> Result<VolatileArrayRef<T>, Error> {
-    let count = view.len().checked_div(T::size_of()).unwrap_or(0);
-    view.get_array_ref::<T>(0, count)
+    view.get_array_ref::<T>(0, view.element_count::<T>())
 }
 
 impl Guest<'_> {

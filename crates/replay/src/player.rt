@@ -5,7 +5,7 @@ use crate::comparison::Difference;
 use crate::elements::{array, element_at, reference};
 use crate::fault::{Fault, Halt, unnamed};
 use crate::guest::Guest;
-use parcel::page_number;
+use parcel::page_numbers;
 use script::{ClaimCall, Command, Cut, Kind, ROOT};
 use std::alloc::{AllocError, Global};
 use std::collections::BTreeMap;
@@ -153,10 +153,7 @@ impl Player<'_> {
             parcel.as_mut_slice(),
             self.copy.as_mut_slice(),
         )?;
-        let parcel = parcel.as_slice();
-        let pages = (0..taken.pages)
-            .filter_map(|index| page_number(parcel, index))
-            .collect(heap)?;
+        let pages = page_numbers(parcel.as_slice()).collect(heap)?;
         Ok(Answer::Taken {
             length: taken.length,
             pages,

@@ -1,4 +1,4 @@
-use Rattle.std.proofs.Common.{◌≡◌, ℕ, List, Some, Result, Ok, Err, IfOk, sym, ap, ◌∙◌, subst, arith}
+use Rattle.std.proofs.Common.{◌≡◌, ℕ, List, Some, Result, Ok, Err, IfOk, sym, ap, ◌∙◌, subst, arith, rules}
 use Rattle.std.specs.Result.{MatchResult, IsErrAnd}
 use Rattle.std.proofs.lemmas.Bool.Decides.{nat_tests}
 use Rattle.std.proofs.lemmas.Result.{IfOk-weaker}
@@ -27,5 +27,5 @@ pub returns : goal.returns
 returns c =
     let read = c.in_ok-byte_size in
     let line = c.args.line.now.text.now in
-    let size = same_size read.page_size c.in-Some.page_size.value c.in-Some.ensures in
+    let size = same_size read.page_size c.in_ok-page_size.page_size.value (search (rules, c.new.ensures)) in
     kept _ c.new-2.result c.map_err.result (λ (m : Memory). TwoNumbers line m.byte_size m.page_size.value) c.map_err.ensures.cases (IfOk-weaker c.new-2.result _ _ (λ m made. numbers_are line read.byte_size read.page_size m.byte_size m.page_size.value made.0 (ap (λ s. s.value) made.1 ∙ size) read.ensures) c.new-2.ensures.made)
