@@ -1,5 +1,5 @@
 -- The bits of a number under `|`, `&` and `!`, over every width. Assumes nothing.
-use Rattle.std.proofs.Common.{◌≡◌, ℕ, zero, suc, ◌+◌, ◌-◌, ◌*◌, ◌/◌, ◌%◌, ◌^◌, ◌<◌, min, max, true, false, cond, not, eqb, sym, refl, ap, ◌∙◌, inl, inr, mul_comm, add-mul, pow-suc, zero-mul, arith}
+use Rattle.std.proofs.Common.{◌≡◌, ℕ, zero, suc, ◌+◌, ◌-◌, ◌*◌, ◌/◌, ◌%◌, ◌^◌, ◌<◌, ◌≤◌, min, max, true, false, cond, not, eqb, sym, refl, ap, ◌∙◌, inl, inr, lt_of_lt_of_le, mul_comm, add-mul, pow-suc, zero-mul, arith, pow_mono}
 use native.Mathlib.Nat.{div-eq_of_lt, div_self, div-div-eq-div-mul}
 use lib.Bits.{bit_and, bit_or, and_shr, or_shr, and_mod, or_mod, and_high, and_zero_l, or_zero_l}
 use Rattle.std.proofs.lemmas.Nat.{pow_pos, pow-add, pow_below, shr_split, shl-shr, div_below, mod_below, div-mul-add}
@@ -77,6 +77,10 @@ get_bit n k =
     let e : 2 ^ (1 + k) - 2 ^ k ≡ 2 ^ k = omega (arith, pow-add 2 1 k) in
     let masked : bit_and n (2 ^ k) ≡ digit n k * 2 ^ k = ap (bit_and n) (sym e) ∙ and_high n 1 k in
     rw masked (read (digit n k) (2 ^ k) (omega arith) (pow_pos k))
+
+-- a number of w bits has no bit from w on
+pub no_bit : (w n k : ℕ) → n < 2 ^ w → w ≤ k → bit_of n k ≡ false
+no_bit w n k fits past = rw (div-eq_of_lt (lt_of_lt_of_le fits (pow_mono past)))
 
 -- a bit set
 pub set_bit : (n k j : ℕ) → bit_of (bit_or n (2 ^ k)) j ≡ cond (eqb j k) true (bit_of n j)

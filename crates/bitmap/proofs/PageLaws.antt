@@ -48,6 +48,9 @@ pub assigned_page_by : (b : Meaning) (on : Bool) (page : ℕ) (f : ℕ → Bool)
 unfolding assigned_page
 assigned_page_by b on page f each i = with_bits b (λ n. each n i)
 
+pub same_bits : (b : Meaning) (f : ℕ → Bool) → ((n : ℕ) → b.bit n ≡ f n) → b ≡ with_bits b f
+same_bits b f each i = with_bits b (λ n. each n i)
+
 -- offsets add up, modulo 2 ^ 64
 pub assigned-sliced : (on : Bool) (b : Meaning) (k offset len : ℕ) → sliced (assigned on b (wrapped k offset) len) k ≡ assigned on (sliced b k) offset len
 unfolding assigned

@@ -21,6 +21,10 @@ unfolding dirty_below
 dirty_chain d zero = tt
 dirty_chain d (suc n) = rw (dirty_next d n) (chain_more 0 n (dirty_below d n) (d n) (omega arith) (dirty_chain d n))
 
+pub chain_count : (low n : ℕ) (qs : List ℕ) → low ≤ n → Chain low n qs → low + length qs ≤ n
+chain_count low n [] h c = omega arith
+chain_count low n (q ∷ qs) h c = omega (arith, chain_count (q + 1) n qs (omega arith) c.2)
+
 chain_rises : (low n : ℕ) (qs : List ℕ) → Chain low n qs → Rising qs
 chain_rises low n [] c i h = omega arith
 chain_rises low n (q ∷ []) c i h = omega arith

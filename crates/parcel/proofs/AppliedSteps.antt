@@ -1,6 +1,6 @@
 -- Applying, by its steps. Assumes nothing.
 use Rattle.std.proofs.Common.{◌≡◌, ℕ, ◌+◌, ◌*◌, ◌≤◌, min, Bool, true, false, cond, not, ◌||◌, eqb, ltb, Some, List, length, take, drop, sym, refl, ap, ◌∙◌, inl, inr, arith, length-take, length-drop}
-use Rattle.std.proofs.lemmas.Bool.{cases_Bool, cond-true, cond-false, eqb-true, not-false}
+use Rattle.std.proofs.lemmas.Bool.{cases_Bool, cond-true, cond-false, or_parts, ltb-false, eqb-true, not-false}
 use Rattle.std.proofs.lemmas.Option.{none-some}
 use Rattle.std.proofs.lemmas.List.{drop-drop}
 use Rattle.bitmap.specs.Pages.{page_size}
@@ -67,6 +67,19 @@ third_kept true t₂ t₃ t₄ f₁ f₂ f₃ f₄ y is = absurd (gives-refuses 
 same_length : (n y : ℕ) (bs : List ℕ) → gives y ≡ head_rules n bs → number_at bs 2 ≡ n
 same_length n y bs is =
     eqb-true (number_at bs 2) n (not-false _ (third_kept (ltb (length bs) 24) (eqb (number_at bs 0) 0) (not (eqb (number_at bs 2) n)) (ltb (pages (number_at bs 2) (number_at bs 0)) (number_at bs 1) || ltb (length bs) (24 + 8 * number_at bs 1)) _ _ _ _ y is))
+
+-- the fourth: it carries no more pages than the memory has
+fourth_kept : (t₁ t₂ t₃ t₄ : Bool) (f₁ f₂ f₃ f₄ : Fault) (y : ℕ) → gives y ≡ cond t₁ (refuses f₁) (cond t₂ (refuses f₂) (cond t₃ (refuses f₃) (cond t₄ (refuses f₄) (gives 0)))) → t₄ ≡ false
+fourth_kept false false false false f₁ f₂ f₃ f₄ y is = refl
+fourth_kept false false false true f₁ f₂ f₃ f₄ y is = absurd (gives-refuses is)
+fourth_kept false false true t₄ f₁ f₂ f₃ f₄ y is = absurd (gives-refuses is)
+fourth_kept false true t₃ t₄ f₁ f₂ f₃ f₄ y is = absurd (gives-refuses is)
+fourth_kept true t₂ t₃ t₄ f₁ f₂ f₃ f₄ y is = absurd (gives-refuses is)
+
+pub few_pages : (n y : ℕ) (bs : List ℕ) → gives y ≡ head_rules n bs → number_at bs 1 ≤ pages n (number_at bs 0)
+few_pages n y bs is =
+    let last = or_parts _ _ (fourth_kept (ltb (length bs) 24) (eqb (number_at bs 0) 0) (not (eqb (number_at bs 2) n)) (ltb (pages (number_at bs 2) (number_at bs 0)) (number_at bs 1) || ltb (length bs) (24 + 8 * number_at bs 1)) _ _ _ _ y is) in
+    rw (same_length n y bs is) at (ltb-false (pages (number_at bs 2) (number_at bs 0)) (number_at bs 1) last.0)
 
 -- the rules one after another, for a copy of n bytes
 module _ (n : ℕ) (bs : List ℕ) where

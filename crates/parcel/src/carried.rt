@@ -66,7 +66,7 @@ impl<'a> Carried<'a> {
             if !is_right(page, low, count) {
                 return Err(broken(Rule::WrongPage, HEAD + index * NUMBER));
             }
-            bytes += self.layout.size(page);
+            bytes += self.layout.own_size(page);
             low = page + 1;
         }
         Ok(bytes)

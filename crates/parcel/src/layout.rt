@@ -1,5 +1,5 @@
 //! How the bytes of a memory lie on pages.
-ghost use Rattle.std.specs.Prelude.{◌≡◌, ◌*◌, min};
+ghost use Rattle.std.specs.Prelude.{◌≡◌, ◌*◌, ◌<◌, min};
 ghost use Rattle.parcel.specs.Parcels.{pages, page_length};
 
 use bitmap::PageSize;
@@ -24,6 +24,16 @@ impl Layout {
         ensures { result ≡ min (page * self.page_size.value) self.total }
     {
         page.saturating_mul(self.page_size.get()).min(self.total)
+    }
+
+    // How many bytes one of its pages has, which is not asked again whether it is one.
+    pub(crate) fn own_size(self, page: usize) -> usize
+        requires { page < pages self.total self.page_size.value }
+        ensures { result ≡ page_length self.page_size.value self.total page }
+    {
+        self.page_size
+            .get()
+            .min(self.total - page * self.page_size.get())
     }
 
     // How many bytes a page has: the last one may have fewer than the others.

@@ -83,8 +83,11 @@ fn play_all(
     let guest = Guest::new(heap, root.len(), map)?;
     let mut player = Player::new(guest, root)?;
     let entries = entries_of(heap, &mut player, steps);
-    let difference = player.end();
-    Ok((entries?, difference))
+    let (memory, copy) = player.end();
+    // A script that is not played to its end has no account, and nothing is compared.
+    let entries = entries?;
+    let difference = Difference::between(memory.as_slice(), copy.as_slice());
+    Ok((entries, difference))
 }
 
 /// Plays the script that bytes write.

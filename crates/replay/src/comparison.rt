@@ -11,12 +11,14 @@ pub(crate) struct Difference {
 impl Difference {
     /// How a copy differs from a memory of its length: absent where they are equal.
     pub(crate) fn between(memory: &[u8], copy: &[u8]) -> Option<Difference> {
-        let first = memory.iter().zip(copy.iter()).position(|(a, b)| *a != *b)?;
-        let bytes = memory
+        let mut places = memory
             .iter()
             .zip(copy.iter())
-            .filter(|(a, b)| **a != **b)
-            .count();
+            .enumerate()
+            .filter(|(_, (a, b))| **a != **b);
+        let (first, _) = places.next()?;
+        // The first is one of them, and the others are counted from there on.
+        let bytes = places.count().saturating_add(1);
         Some(Difference { bytes, first })
     }
 }

@@ -1,6 +1,7 @@
 //! What keeps a script from being played, and what ends a call.
 use script::ScriptError;
 use std::alloc::{AllocError, Global};
+use std::fmt;
 use text::LineError;
 use thiserror::Error;
 
@@ -37,11 +38,20 @@ pub(crate) enum Halt {
 /// Why a script is not played to its end.
 pub(crate) type PlayError = LineError<Fault>;
 
-/// Why a script has no account: it is a bad one, or not played to its end.
-#[derive(Debug, Drop, Error)]
+/// Why a script has no account: it is a bad one, not played to its end, or there is no memory.
+#[derive(Drop, Error)]
 pub enum ReplayError {
     #[error(transparent)]
     Script(#[from] ScriptError),
     #[error(transparent)]
     Play(#[from] LineError<Fault>),
+    #[error(transparent)]
+    OutOfMemory(#[from(alloc)] AllocError),
+}
+
+// For a reader, as `Display`: the line and what is wrong there.
+impl fmt::Debug for ReplayError {
+    fn fmt<W: fmt::Write>(&self, f: &mut fmt::Formatter<W>) -> fmt::Result {
+        write!(f, "{self}")
+    }
 }

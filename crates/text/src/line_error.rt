@@ -5,12 +5,12 @@ ghost use Rattle.text.specs.declared.line_error.LineError.TheVariants.{Line};
 
 use crate::reading::NotText;
 use std::alloc::AllocError;
-use std::fmt::{Debug, Display};
+use std::fmt::{self, Display};
 use thiserror::Error;
 
 /// Why a text is not read: it is none, a line of it has a fault, or there is no memory.
-#[derive(Debug, Drop, Error)]
-#[error_bound(F: Debug + Display)]
+#[derive(Drop, Error)]
+#[error_bound(F: Display)]
 pub enum LineError<F> {
     #[error(transparent)]
     NotText(#[from] NotText),
@@ -18,6 +18,13 @@ pub enum LineError<F> {
     Line(usize, F),
     #[error(transparent)]
     OutOfMemory(#[from(alloc)] AllocError),
+}
+
+// For a reader, as `Display`: the line and what is wrong there.
+impl<F: Display> fmt::Debug for LineError<F> {
+    fn fmt<W: fmt::Write>(&self, f: &mut fmt::Formatter<W>) -> fmt::Result {
+        write!(f, "{self}")
+    }
 }
 
 impl<F> LineError<F> {

@@ -5,7 +5,7 @@ ghost use Rattle.volatile_memory.specs.Faults.{rule_number};
 use std::fmt;
 
 /// A rule that a parcel breaks, with its number: they are looked at in this order.
-#[derive(Clone, Copy, PartialEq, Eq, Debug)]
+#[derive(Clone, Copy, PartialEq, Eq)]
 pub enum Rule {
     /// The parcel is shorter than its head.
     ShortHead = 1,
@@ -34,6 +34,13 @@ impl fmt::Display for Rule {
     fn fmt<W: fmt::Write>(&self, f: &mut fmt::Formatter<W>) -> fmt::Result {
         let number = self.number();
         write!(f, "{number}")
+    }
+}
+
+// By its number too: a refusal that is shown has numbers for values.
+impl fmt::Debug for Rule {
+    fn fmt<W: fmt::Write>(&self, f: &mut fmt::Formatter<W>) -> fmt::Result {
+        write!(f, "{self}")
     }
 }
 
