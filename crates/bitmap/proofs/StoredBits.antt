@@ -1,5 +1,5 @@
 -- Bits in a row of words: what a read of one gives, and what a write of one leaves. Over every kind of word.
-use Rattle.std.proofs.Common.{◌≡◌, ℕ, zero, suc, ◌+◌, ◌*◌, ◌/◌, ◌%◌, ◌^◌, ◌<◌, Bool, cond, eqb, List, [], ◌∷◌, length, get_or, set, sym, refl, ap, ◌∙◌, inl, inr, mul_comm, arith}
+use Rattle.std.proofs.Common.{◌≡◌, ℕ, zero, suc, ◌+◌, ◌*◌, ◌/◌, ◌%◌, ◌^◌, ◌<◌, ◌≤◌, Bool, false, cond, eqb, List, [], ◌∷◌, length, get_or, set, sym, refl, ap, ◌∙◌, inl, inr, mul_comm, arith}
 use Rattle.std.proofs.lemmas.Nat.{div_below, mod_below, div-add-mod', div-mul-add, mod-mul-add}
 use Rattle.std.proofs.ByRecursion.{All-get_or}
 use Rattle.std.proofs.lemmas.List.{ext_get_or, get_or_default}
@@ -22,15 +22,28 @@ module _ {W : Type 0} (bit : W → ℕ → Bool) where
   bit_at_set (w ∷ ws) (suc i) zero k x h = grind (arith, nat_tests)
   bit_at_set (w ∷ ws) (suc i) (suc j) k x h = let ih = bit_at_set ws i j k x (omega arith) in grind (arith, nat_tests)
 
+  bit_at_past : (ws : List W) (i k : ℕ) → length ws ≤ i → bit_at bit ws i k ≡ false
+  bit_at_past [] i k h = refl
+  bit_at_past (w ∷ ws) zero k h = absurd (omega arith)
+  bit_at_past (w ∷ ws) (suc i) k h = bit_at_past ws i k (omega arith)
+
+  -- past the last word no bit is set
+  pub stored_past : (width : ℕ) (ws : List W) (n r : ℕ) → r ≡ width → length ws ≤ n / r → false ≡ stored bit width ws n
+  unfolding stored
+  stored_past width ws n r is past = sym (bit_at_past ws (n / width) (n % width) (rw is at past))
+
 module _ {W : Type 0} (bit : W → ℕ → Bool) (width : ℕ) (wide : 0 < width) where
   -- the word of a bit of the row, where r is the width as the code has it
   pub word_within : (ws : List W) (n r : ℕ) → r ≡ width → n < width * length ws → n / r < length ws
   word_within ws n r is h = rw is (div_below n width (length ws) wide (omega (arith, mul_comm width (length ws))))
 
   -- a bit as its word has it
-  pub stored_read : (ws : List W) (n r : ℕ) (x : W) → r ≡ width → n < width * length ws → x ≡ get_or ws (n / r) x → bit x (n % r) ≡ stored bit width ws n
+  pub stored_at : (ws : List W) (n r : ℕ) (x : W) → r ≡ width → n / r < length ws → x ≡ get_or ws (n / r) x → bit x (n % r) ≡ stored bit width ws n
   unfolding stored
-  stored_read ws n r x is h at = rw is (bit_at_read bit ws (n / width) (n % width) x (word_within ws n width refl h) (rw is at at))
+  stored_at ws n r x is h at = rw is (bit_at_read bit ws (n / width) (n % width) x (rw is at h) (rw is at at))
+
+  pub stored_read : (ws : List W) (n r : ℕ) (x : W) → r ≡ width → n < width * length ws → x ≡ get_or ws (n / r) x → bit x (n % r) ≡ stored bit width ws n
+  stored_read ws n r x is h at = stored_at ws n r x is (word_within ws n r is h) at
 
   -- two bits with one word and one place are one
   same_bit : (m n : ℕ) → m / width ≡ n / width → m % width ≡ n % width → m ≡ n

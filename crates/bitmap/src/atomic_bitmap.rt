@@ -5,7 +5,7 @@ ghost use Rattle.bitmap.specs.Sound.{tracked_paged, tracked_bounded};
 ghost use Rattle.bitmap.specs.Tracked.{loan, fixed, tracked};
 
 use crate::extent::Extent;
-use crate::{Bitmap, CleanBitmap, PageSize, page_bits};
+use crate::{Bitmap, CleanBitmap, PageSize, page_bits, word};
 use std::ops::Range;
 
 /// One bit a page in 64-bit words: page `n` is bit `n % 64` of word `n / 64`.
@@ -37,6 +37,14 @@ impl<'a> AtomicBitmap<'a> {
         ensures { result ≡ dirty (tracked self.now) index }
     {
         page_bits::is_set(self.map, self.extent(), index)
+    }
+
+    /// Whether bit `index` of the words is set, be it a page's or not; past the words none is. Where a page is known to
+    /// be one of the bitmap's, this says whether it is dirty, and works out no page count.
+    pub fn stored_bit(&self, index: usize) -> bool
+        ensures { result ≡ (tracked self.now).bit index }
+    {
+        word::stored_bit(self.map, index)
     }
 
     /// Whether the bit of the page at address `addr` is set.

@@ -21,6 +21,17 @@ pub(crate) fn get<W: Integer>(words: &[W], n: usize) -> bool
     get_bit(words[n / width], n % width)
 }
 
+// Bit `n` of a row of words; past the words none is set.
+pub(crate) fn stored_bit<W: Integer>(words: &[W], n: usize) -> bool
+    ensures { result ≡ stored (bit W.bits_of) (8 * W.WIDTH) words.now n }
+{
+    let width = bits::<W>();
+    match words.get(n / width) {
+        Some(word) => get_bit(*word, n % width),
+        None => false,
+    }
+}
+
 // Bit `k` of a word.
 fn get_bit<W: Integer>(word: W, k: usize) -> bool
     requires { k < 8 * W.WIDTH }

@@ -96,8 +96,9 @@ fn mark(heap: Global, map: &mut AtomicBitmap, access: Access) -> Result<PageRang
 fn clean_pages(heap: Global, map: &AtomicBitmap, access: Access) -> Result<PageRanges, AllocError>
     ensures { IfOk result (λ pages. pages ≡ those (λ n. reaches (tracked map.now) access.offset access.len n && not (dirty (tracked map.now) n)) (tracked map.now).count) }
 {
+    // Pages that the bitmap has, so the bit of each says whether it is dirty.
     map.page_range(access.offset, access.len)
-        .filter(|page| !map.is_bit_set(*page))
+        .filter(|page| !map.stored_bit(*page))
         .collect(heap)
 }
 

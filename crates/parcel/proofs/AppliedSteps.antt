@@ -1,6 +1,6 @@
 -- Applying, by its steps. Assumes nothing.
-use Rattle.std.proofs.Common.{◌≡◌, ℕ, ◌+◌, ◌*◌, ◌≤◌, min, Bool, true, false, cond, not, ◌||◌, eqb, ltb, Some, List, length, take, drop, sym, refl, ap, ◌∙◌, inl, inr, arith, length-take, length-drop}
-use Rattle.std.proofs.lemmas.Bool.{cases_Bool, cond-true, cond-false, or_parts, ltb-false, eqb-true, not-false}
+use Rattle.std.proofs.Common.{◌≡◌, ℕ, ◌+◌, ◌*◌, ◌<◌, ◌≤◌, min, Bool, true, false, cond, not, ◌||◌, eqb, ltb, Some, List, length, take, drop, sym, refl, ap, ◌∙◌, inl, inr, arith, length-take, length-drop}
+use Rattle.std.proofs.lemmas.Bool.{cases_Bool, cond-true, cond-false, or_parts, ltb-false, eqb-false, eqb-true, not-false}
 use Rattle.std.proofs.lemmas.Option.{none-some}
 use Rattle.std.proofs.lemmas.List.{drop-drop}
 use Rattle.bitmap.specs.Pages.{page_size}
@@ -57,29 +57,36 @@ length_right n owed is =
       | inr e ↦ absurd (gives-refuses (is ∙ cond-false _ _ _ e))
     ]
 
--- of rules 1 to 4 that something passed, the third: the memory is as long as the parcel says
-third_kept : (t₁ t₂ t₃ t₄ : Bool) (f₁ f₂ f₃ f₄ : Fault) (y : ℕ) → gives y ≡ cond t₁ (refuses f₁) (cond t₂ (refuses f₂) (cond t₃ (refuses f₃) (cond t₄ (refuses f₄) (gives 0)))) → t₃ ≡ false
-third_kept false false false t₄ f₁ f₂ f₃ f₄ y is = refl
-third_kept false false true t₄ f₁ f₂ f₃ f₄ y is = absurd (gives-refuses is)
-third_kept false true t₃ t₄ f₁ f₂ f₃ f₄ y is = absurd (gives-refuses is)
-third_kept true t₂ t₃ t₄ f₁ f₂ f₃ f₄ y is = absurd (gives-refuses is)
+-- what rules 1 to 4 tell of a parcel that keeps them, for a memory of n bytes
+pub record Headed (n : ℕ) (bs : List ℕ) : Type 0 where
+  pub long : 24 ≤ length bs
+  pub paged : 0 < number_at bs 0
+  pub same : number_at bs 2 ≡ n
+  pub few : number_at bs 1 ≤ pages n (number_at bs 0)
+  pub room : 24 + 8 * number_at bs 1 ≤ length bs
 
-same_length : (n y : ℕ) (bs : List ℕ) → gives y ≡ head_rules n bs → number_at bs 2 ≡ n
-same_length n y bs is =
-    eqb-true (number_at bs 2) n (not-false _ (third_kept (ltb (length bs) 24) (eqb (number_at bs 0) 0) (not (eqb (number_at bs 2) n)) (ltb (pages (number_at bs 2) (number_at bs 0)) (number_at bs 1) || ltb (length bs) (24 + 8 * number_at bs 1)) _ _ _ _ y is))
+-- tests in a row that were all passed
+passed : {X : Type 0} (t₁ t₂ t₃ t₄ : Bool) (f₁ f₂ f₃ f₄ : Fault) (x y : X) → gives y ≡ cond t₁ (refuses f₁) (cond t₂ (refuses f₂) (cond t₃ (refuses f₃) (cond t₄ (refuses f₄) (gives x))))
+    → (t₁ ≡ false) × (t₂ ≡ false) × (t₃ ≡ false) × (t₄ ≡ false)
+passed false false false false f₁ f₂ f₃ f₄ x y is = (refl, refl, refl, refl)
+passed false false false true f₁ f₂ f₃ f₄ x y is = absurd (gives-refuses is)
+passed false false true t₄ f₁ f₂ f₃ f₄ x y is = absurd (gives-refuses is)
+passed false true t₃ t₄ f₁ f₂ f₃ f₄ x y is = absurd (gives-refuses is)
+passed true t₂ t₃ t₄ f₁ f₂ f₃ f₄ x y is = absurd (gives-refuses is)
 
--- the fourth: it carries no more pages than the memory has
-fourth_kept : (t₁ t₂ t₃ t₄ : Bool) (f₁ f₂ f₃ f₄ : Fault) (y : ℕ) → gives y ≡ cond t₁ (refuses f₁) (cond t₂ (refuses f₂) (cond t₃ (refuses f₃) (cond t₄ (refuses f₄) (gives 0)))) → t₄ ≡ false
-fourth_kept false false false false f₁ f₂ f₃ f₄ y is = refl
-fourth_kept false false false true f₁ f₂ f₃ f₄ y is = absurd (gives-refuses is)
-fourth_kept false false true t₄ f₁ f₂ f₃ f₄ y is = absurd (gives-refuses is)
-fourth_kept false true t₃ t₄ f₁ f₂ f₃ f₄ y is = absurd (gives-refuses is)
-fourth_kept true t₂ t₃ t₄ f₁ f₂ f₃ f₄ y is = absurd (gives-refuses is)
-
-pub few_pages : (n y : ℕ) (bs : List ℕ) → gives y ≡ head_rules n bs → number_at bs 1 ≤ pages n (number_at bs 0)
-few_pages n y bs is =
-    let last = or_parts _ _ (fourth_kept (ltb (length bs) 24) (eqb (number_at bs 0) 0) (not (eqb (number_at bs 2) n)) (ltb (pages (number_at bs 2) (number_at bs 0)) (number_at bs 1) || ltb (length bs) (24 + 8 * number_at bs 1)) _ _ _ _ y is) in
-    rw (same_length n y bs is) at (ltb-false (pages (number_at bs 2) (number_at bs 0)) (number_at bs 1) last.0)
+pub headed : (n y : ℕ) (bs : List ℕ) → gives y ≡ head_rules n bs → Headed n bs
+headed n y bs is =
+    let tests = passed (ltb (length bs) 24) (eqb (number_at bs 0) 0) (not (eqb (number_at bs 2) n)) (ltb (pages (number_at bs 2) (number_at bs 0)) (number_at bs 1) || ltb (length bs) (24 + 8 * number_at bs 1)) _ _ _ _ 0 y is in
+    let some = eqb-false (number_at bs 0) 0 tests.1 in
+    let same = eqb-true (number_at bs 2) n (not-false _ tests.2) in
+    let last = or_parts _ _ tests.3 in
+    record {
+      long = ltb-false (length bs) 24 tests.0;
+      paged = omega arith;
+      same = same;
+      few = rw same at (ltb-false (pages (number_at bs 2) (number_at bs 0)) (number_at bs 1) last.0);
+      room = ltb-false (length bs) (24 + 8 * number_at bs 1) last.1;
+    }
 
 -- the rules one after another, for a copy of n bytes
 module _ (n : ℕ) (bs : List ℕ) where
@@ -94,7 +101,7 @@ module _ (n : ℕ) (bs : List ℕ) where
   module _ (p total : ℕ) (ns rest : List ℕ) (c : Carries n bs p total ns rest) (head_right : gives 0 ≡ head_rules n bs) where
     past_head : rules n bs ≡ behind n
     unfolding rules behind
-    past_head = ap (λ a. unless a (behind (number_at bs 2))) (sym head_right) ∙ ap behind (same_length n 0 bs head_right)
+    past_head = ap (λ a. unless a (behind (number_at bs 2))) (sym head_right) ∙ ap behind (headed n 0 bs head_right).same
 
     -- the list of the page numbers, as the parcel has it
     listed : wrong_among (pages total p) 0 3 (numbers_of ns) ≡ wrong_among (pages n (number_at bs 0)) 0 3 (numbers bs 3 (number_at bs 1))
@@ -119,18 +126,33 @@ behind_step : (w a : Answer ℕ) (x : ℕ) → gives x ≡ unless w a → ((y : 
 behind_step (gives y) a x is = ((y, refl), is)
 behind_step (refuses f) a x is = absurd (gives-refuses is)
 
--- the pages of a parcel that keeps all rules are pages of the memory, and their bytes are all there
-module _ (n : ℕ) (bs : List ℕ) (p total : ℕ) (ns rest : List ℕ) (c : Carries n bs p total ns rest) where
-  pub kept_rules : gives 0 ≡ rules n bs → Below (pages total p) (numbers_of ns) × (length rest ≡ sum_of (page_length p total) (numbers_of ns))
-  unfolding rules
-  kept_rules is =
-      let k = number_at bs 1 in
-      let first = behind_step (head_rules n bs) (unless (wrong_among (pages (number_at bs 2) (number_at bs 0)) 0 3 (numbers bs 3 k)) (length_rule (length bs) (24 + 8 * k + sum_of (page_length (number_at bs 0) n) (numbers bs 3 k)))) 0 is in
-      let second = behind_step (wrong_among (pages (number_at bs 2) (number_at bs 0)) 0 3 (numbers bs 3 k)) (length_rule (length bs) (24 + 8 * k + sum_of (page_length (number_at bs 0) n) (numbers bs 3 k))) 0 first.1 in
-      let same = same_length n first.0.0 bs first.0.1 in
-      let right = second.0.1 ∙ ap (λ m. wrong_among (pages m (number_at bs 0)) 0 3 (numbers bs 3 k)) same in
-      let whole = length_right (length bs) _ second.1 in
-      rw (c.total_is, c.page_is, c.numbers_are) (right_below (pages n (number_at bs 0)) 0 3 second.0.0 (numbers bs 3 k) (sym right), omega (arith, whole, c.whole, c.long))
+-- what a parcel is that keeps all rules: its head is right, its pages are pages of the memory, and their bytes are all there
+pub record Kept (n : ℕ) (bs : List ℕ) : Type 0 where
+  pub head : Headed n bs
+  pub below : Below (pages n (number_at bs 0)) (numbers bs 3 (number_at bs 1))
+  pub whole : length bs ≡ 24 + 8 * number_at bs 1 + sum_of (page_length (number_at bs 0) n) (numbers bs 3 (number_at bs 1))
+
+pub kept-rules : (n : ℕ) (bs : List ℕ) → gives 0 ≡ rules n bs → Kept n bs
+unfolding rules
+kept-rules n bs is =
+    let p = number_at bs 0 in
+    let k = number_at bs 1 in
+    let first = behind_step (head_rules n bs) (unless (wrong_among (pages (number_at bs 2) p) 0 3 (numbers bs 3 k)) (length_rule (length bs) (24 + 8 * k + sum_of (page_length p n) (numbers bs 3 k)))) 0 is in
+    let second = behind_step (wrong_among (pages (number_at bs 2) p) 0 3 (numbers bs 3 k)) (length_rule (length bs) (24 + 8 * k + sum_of (page_length p n) (numbers bs 3 k))) 0 first.1 in
+    let head = headed n first.0.0 bs first.0.1 in
+    let right = second.0.1 ∙ ap (λ m. wrong_among (pages m p) 0 3 (numbers bs 3 k)) head.same in
+    record {
+      head = head;
+      below = right_below (pages n p) 0 3 second.0.0 (numbers bs 3 k) (sym right);
+      whole = length_right (length bs) _ second.1;
+    }
+
+-- the same of a parcel in its parts
+pub kept_parts : (n : ℕ) (bs : List ℕ) (p total : ℕ) (ns rest : List ℕ) → Carries n bs p total ns rest → gives 0 ≡ rules n bs
+    → Below (pages total p) (numbers_of ns) × (length rest ≡ sum_of (page_length p total) (numbers_of ns))
+kept_parts n bs p total ns rest c is =
+    let kept = kept-rules n bs is in
+    rw (c.total_is, c.page_is, c.numbers_are) (kept.below, omega (arith, kept.whole, c.whole, c.long))
 
 -- the rules in a row, and what stands behind them
 in_order : {X : Type 0} (t₁ t₂ t₃ t₄ t₆ : Bool) (f₁ f₂ f₃ f₄ f₆ : Fault) (w : Answer ℕ) (x : X)

@@ -1,5 +1,6 @@
 //! The pages of a bitmap as text.
-ghost use Rattle.std.specs.Prelude.{IfOk};
+ghost use Rattle.std.specs.Prelude.{◌≡◌, IfOk, map};
+ghost use Rattle.std.specs.List.{range_with_len};
 ghost use Rattle.bitmap.specs.Tracked.{tracked};
 ghost use Rattle.text.specs.PageMaps.{Shows};
 
@@ -21,14 +22,22 @@ pub struct PageMap {
 
 impl PageMap {
     /// The pages as they are now.
+    #[tactic(auto, using(crate::proofs::Shown::shown))]
     pub fn new(heap: Global, map: &AtomicBitmap) -> Result<PageMap, AllocError>
         ensures { IfOk result (λ m. Shows (tracked map.now) m.pages.items) }
     {
-        let pages = (0..map.len())
-            .map(|page| map.is_bit_set(page))
-            .collect(heap)?;
+        let pages = bits_of_pages(heap, map)?;
         Ok(PageMap { pages })
     }
+}
+
+// The bits of a bitmap's pages. All are pages that it has, so each bit says whether its page is dirty.
+fn bits_of_pages(heap: Global, bitmap: &AtomicBitmap) -> Result<Vec<bool>, AllocError>
+    ensures { IfOk result (λ v. v.items ≡ map (tracked bitmap.now).bit (range_with_len 0 (tracked bitmap.now).count)) }
+{
+    (0..bitmap.len())
+        .map(|page| bitmap.stored_bit(page))
+        .collect(heap)
 }
 
 // Lines of pages behind the number of the first: `#` for dirty, `.` for clean.
@@ -50,7 +59,7 @@ fn write_pages<W: fmt::Write>(f: &mut fmt::Formatter<W>, pages: &[bool]) -> fmt:
 
 fn write_marks<W: fmt::Write>(f: &mut fmt::Formatter<W>, pages: &[bool]) -> fmt::Result {
     for dirty in pages {
-        f.write_char(if *dirty { '#' } else { '.' })?;
+        f.write_str(if *dirty { "#" } else { "." })?;
     }
     Ok(())
 }

@@ -1,5 +1,6 @@
 //! What a call can be refused for.
-ghost use Rattle.std.specs.Prelude.{◌≡◌};
+ghost use Rattle.std.specs.Prelude.{◌≡◌, Some, decimal};
+ghost use Rattle.std.specs.Fmt.{styled_decimal};
 ghost use Rattle.volatile_memory.specs.Faults.{rule_number};
 
 use std::fmt;
@@ -31,16 +32,21 @@ impl Rule {
 }
 
 impl fmt::Display for Rule {
+    ghost output = { λ r. Some (decimal (rule_number r)) };
+
+    ghost styled_output = { λ r s. Some (styled_decimal s (rule_number r)) };
+
     fn fmt<W: fmt::Write>(&self, f: &mut fmt::Formatter<W>) -> fmt::Result {
-        let number = self.number();
-        write!(f, "{number}")
+        fmt::Display::fmt(&self.number(), f)
     }
 }
 
 // By its number too: a refusal that is shown has numbers for values.
 impl fmt::Debug for Rule {
+    ghost debug_output = { λ r. Some (decimal (rule_number r)) };
+
     fn fmt<W: fmt::Write>(&self, f: &mut fmt::Formatter<W>) -> fmt::Result {
-        write!(f, "{self}")
+        fmt::Debug::fmt(&self.number(), f)
     }
 }
 

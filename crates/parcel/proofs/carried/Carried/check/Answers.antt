@@ -1,6 +1,6 @@
 use Rattle.std.proofs.Common.{sym, ◌∙◌, arith}
 use Rattle.std.proofs.lemmas.Result.{err_from_is_err_and}
-use Rattle.parcel.proofs.AppliedSteps.{rules-head, rules-numbers, rules-length, kept_rules}
+use Rattle.parcel.proofs.AppliedSteps.{rules-head, rules-numbers, rules-length, kept_parts}
 use Rattle.parcel.proofs.carried.Carried.check.Goals as goal
 
 pub returns-in_err-pages : goal.returns-in_err-pages
@@ -25,7 +25,7 @@ pub invariant_of-result : goal.invariant_of-result
 invariant_of-result c =
     let carried = c.in_ok-pages.ensures.carried in
     let kept = c.in_ok-check_length.ensures ∙ sym (rules-length c.args.total c.args.parcel.now _ _ _ _ carried c.in_ok-pages.ensures.answer c.in_ok-owed.owed c.in_ok-owed.ensures) in
-    let k = kept_rules c.args.total c.args.parcel.now _ _ _ _ carried kept in
+    let k = kept_parts c.args.total c.args.parcel.now _ _ _ _ carried kept in
     record { below = k.0; whole = k.1 }
 
 pub returns : goal.returns
