@@ -38,12 +38,9 @@ module _ {W : Type 0} (bit : W → ℕ → Bool) (width : ℕ) (wide : 0 < width
   word_within ws n r is h = rw is (div_below n width (length ws) wide (omega (arith, mul_comm width (length ws))))
 
   -- a bit as its word has it
-  pub stored_at : (ws : List W) (n r : ℕ) (x : W) → r ≡ width → n / r < length ws → x ≡ get_or ws (n / r) x → bit x (n % r) ≡ stored bit width ws n
+  pub stored_read : (ws : List W) (n r : ℕ) (x : W) → r ≡ width → n / r < length ws → x ≡ get_or ws (n / r) x → bit x (n % r) ≡ stored bit width ws n
   unfolding stored
-  stored_at ws n r x is h at = rw is (bit_at_read bit ws (n / width) (n % width) x (rw is at h) (rw is at at))
-
-  pub stored_read : (ws : List W) (n r : ℕ) (x : W) → r ≡ width → n < width * length ws → x ≡ get_or ws (n / r) x → bit x (n % r) ≡ stored bit width ws n
-  stored_read ws n r x is h at = stored_at ws n r x is (word_within ws n r is h) at
+  stored_read ws n r x is h at = rw is (bit_at_read bit ws (n / width) (n % width) x (rw is at h) (rw is at at))
 
   -- two bits with one word and one place are one
   same_bit : (m n : ℕ) → m / width ≡ n / width → m % width ≡ n % width → m ≡ n

@@ -44,7 +44,7 @@ impl<'a> AtomicBitmap<'a> {
     pub fn stored_bit(&self, index: usize) -> bool
         ensures { result ≡ (tracked self.now).bit index }
     {
-        word::stored_bit(self.map, index)
+        word::get(self.map, index)
     }
 
     /// Whether the bit of the page at address `addr` is set.

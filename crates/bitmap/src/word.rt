@@ -12,17 +12,8 @@ pub(crate) fn bits<W: Integer>() -> usize
     8 * W::WIDTH
 }
 
-// Bit `n` of a row of words.
-pub(crate) fn get<W: Integer>(words: &[W], n: usize) -> bool
-    requires { n < 8 * W.WIDTH * length words.now }
-    ensures { result ≡ stored (bit W.bits_of) (8 * W.WIDTH) words.now n }
-{
-    let width = bits::<W>();
-    get_bit(words[n / width], n % width)
-}
-
 // Bit `n` of a row of words; past the words none is set.
-pub(crate) fn stored_bit<W: Integer>(words: &[W], n: usize) -> bool
+pub(crate) fn get<W: Integer>(words: &[W], n: usize) -> bool
     ensures { result ≡ stored (bit W.bits_of) (8 * W.WIDTH) words.now n }
 {
     let width = bits::<W>();

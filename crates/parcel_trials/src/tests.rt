@@ -171,3 +171,17 @@ fn a_bad_parcel_is_refused_by_the_first_rule_it_breaks(rt: HostRuntime) {
         "one page, and bytes of two"
     );
 }
+
+#[test]
+fn a_broken_rule_is_shown_as_its_number(rt: HostRuntime) -> Result<(), Fail> {
+    let error = Error::BadParcel {
+        rule: Rule::ShortHead,
+        place: 3,
+    };
+    let shown = format!(in rt.alloc(); "{error:?} {error:02?}")?;
+    assert_eq!(rt;
+        shown.as_str(),
+        "BadParcel { rule: 1, place: 3 } BadParcel { rule: 01, place: 03 }"
+    );
+    Ok(())
+}

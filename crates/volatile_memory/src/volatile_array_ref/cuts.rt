@@ -23,7 +23,7 @@ impl<T: ByteValued> VolatileArrayRef<T> {
     pub fn len(&self) -> usize
         ensures { result ≡ count (span self.now.slice) T.ByteValued.size }
     {
-        self.slice.element_count::<T>()
+        self.to_slice().element_count::<T>()
     }
 
     /// Whether it has no elements.

@@ -1,17 +1,15 @@
-use Rattle.std.proofs.Common.{◌*◌, ◌/◌, ◌<◌, length, ◌∙◌, arith}
+use Rattle.std.proofs.Common.{◌*◌, sym, ◌∙◌, arith}
+use Rattle.std.proofs.lemmas.Bool.{ltb-true, ltb-false}
 use Rattle.bitmap.specs.Storage.{bit}
-use Rattle.bitmap.proofs.StoredBits.{word_within, stored_read}
-use Rattle.bitmap.proofs.word.get.Given as given
+use Rattle.bitmap.proofs.StoredBits.{stored_read, stored_past}
 use Rattle.bitmap.proofs.word.get.Goals as goal
 
-within : (g : given.Over) (c : goal.After-bits-width g) → c.args.n / c.bits-width.result < length c.args.words.now
-within g c = word_within (bit g.W.Integer.bits_of) (8 * g.W.Integer.WIDTH) (omega (arith, g.W.Integer.laws.some)) _ _ _ c.bits-width.ensures c.requires
+pub returns-in-Some : goal.returns-in-Some
+returns-in-Some g c =
+    let within = ltb-true _ _ (sym c.in-Some.ensures.lookup.0) in
+    c.get_bit.ensures ∙ stored_read (bit g.W.Integer.bits_of) (8 * g.W.Integer.WIDTH) (omega (arith, g.W.Integer.laws.some)) _ _ _ _ c.bits-width.ensures within c.in-Some.ensures.lookup.1
 
-pub bounds-words-n : goal.bounds-words-n
-bounds-words-n = within
-
-pub offset_bounds-words-n : goal.offset_bounds-words-n
-offset_bounds-words-n g c = let h = within g c in omega arith
-
-pub returns : goal.returns
-returns g c = c.get_bit.ensures ∙ stored_read (bit g.W.Integer.bits_of) (8 * g.W.Integer.WIDTH) (omega (arith, g.W.Integer.laws.some)) _ _ _ _ c.bits-width.ensures c.requires c.index-words-n.is
+pub returns-in-None : goal.returns-in-None
+returns-in-None g c =
+    let past = ltb-false _ _ (sym c.in-None.ensures.lookup.0) in
+    stored_past (bit g.W.Integer.bits_of) (8 * g.W.Integer.WIDTH) c.args.words.now c.args.n _ c.bits-width.ensures past
